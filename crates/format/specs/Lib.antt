@@ -1,0 +1,12 @@
+pub mod Refusals
+pub mod Bytes
+pub mod Parts
+pub mod Encoding
+pub mod Rules
+pub mod Decoding
+pub mod Tests
+pub mod Reading
+pub mod Stages
+pub mod Example
+pub mod Right
+pub mod Meaning
