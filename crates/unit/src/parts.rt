@@ -10,6 +10,13 @@ use opcodes::opcode::Instruction;
 use opcodes::opcode::Opcode;
 
 impl<'a> Unit<'a> {
+    /// How many bytes the unit has.
+    pub fn byte_len(&self) -> usize
+        ensures { λ r. ⌜ r ≡ length (now (now (self .entry) .bytes)) ⌝ }
+    {
+        self.bytes.len()
+    }
+
     /// The greatest number of operands that may stand on the stack, at most 16.
     pub fn depth(&self) -> u8
         ensures { λ r. ⌜ r ≡ partsOf (now (self .entry)) .depth ⌝ }
