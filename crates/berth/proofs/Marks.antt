@@ -44,7 +44,7 @@ marked-jump p n marks l j m =
       only = λ t h.
           ⊎-elim (λ e. (n, omega arith, j, sym e))
           (λ e. let k = m .only t (sym (getD-set-other marks (instructionOf p n .operand) t true false e) ∙ h) in (k .0, omega (arith, k .1), k .2, k .3))
-          (cases-eq t (instructionOf p n .operand))
+          (cases-eq t (instructionOf p n .operand));
     }
 
 -- one more instruction, which has none
@@ -54,15 +54,15 @@ marked-other p n marks f m =
       every = λ i h g o.
           ⊎-elim (λ e. absurd (both-ways (has-target (instructionOf p n)) f (subst (λ (x : ℕ). has-target (instructionOf p x) ≡ true) e (and-from _ _ g (lt-ltb _ _ o)))))
           (λ e. m .every i (omega (arith, h, e)) g o) (cases-eq i n);
-      only = λ t h. let k = m .only t h in (k .0, omega (arith, k .1), k .2, k .3)
+      only = λ t h. let k = m .only t h in (k .0, omega (arith, k .1), k .2, k .3);
     }
 
 marked-after : (p : Parts) (n : ℕ) (marks : List Bool) → length marks ≡ 1024 → Marked p n marks → Marked p (n + 1) (after marks (instructionOf p n))
 marked-after p n marks len m =
     ⊎-elim
     (λ e. let k = and-parts (isJump (instructionOf p n)) (ltb (instructionOf p n .operand) 1024) e in
-        let l : instructionOf p n .operand < length marks = omega (arith, ltb-true _ _ (k .1), len) in
-        subst (λ (x : List Bool). Marked p (n + 1) x) (sym (cond-true (has-target (instructionOf p n)) _ _ e)) (marked-jump p n marks l (k .0) m))
+    let l : instructionOf p n .operand < length marks = omega (arith, ltb-true _ _ (k .1), len) in
+    subst (λ (x : List Bool). Marked p (n + 1) x) (sym (cond-true (has-target (instructionOf p n)) _ _ e)) (marked-jump p n marks l (k .0) m))
     (λ e. subst (λ (x : List Bool). Marked p (n + 1) x) (sym (cond-false (has-target (instructionOf p n)) _ _ e)) (marked-other p n marks e m))
     (cases-bool (has-target (instructionOf p n)))
 

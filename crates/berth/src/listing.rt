@@ -53,7 +53,12 @@ fn mark(marks: &mut [bool; MOST], instruction: Instruction)
 }
 
 /// The line of an instruction, with a mark where a jump goes to it.
-fn line<W: fmt::Write>(at: usize, instruction: Instruction, marked: bool, f: &mut fmt::Formatter<W>) -> fmt::Result {
+fn line<W: fmt::Write>(
+    at: usize,
+    instruction: Instruction,
+    marked: bool,
+    f: &mut fmt::Formatter<W>,
+) -> fmt::Result {
     let mark = if marked { '>' } else { ' ' };
     let name = instruction.opcode.row().name;
     match Operand::of(instruction) {

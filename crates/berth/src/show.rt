@@ -27,7 +27,10 @@ fn heading<W: fmt::Write>(unit: &Unit, f: &mut fmt::Formatter<W>) -> fmt::Result
     let classes = unit.class_count();
     let slots = unit.slot_count();
     let instructions = unit.code_len();
-    writeln!(f, "unit: {bytes} bytes, depth {depth}, {classes} classes, {slots} slots, {instructions} instructions")
+    writeln!(
+        f,
+        "unit: {bytes} bytes, depth {depth}, {classes} classes, {slots} slots, {instructions} instructions"
+    )
 }
 
 /// A line for each class.
@@ -41,7 +44,12 @@ fn classes<W: fmt::Write>(unit: &Unit, f: &mut fmt::Formatter<W>) -> fmt::Result
 }
 
 /// The line of a class: its parent, and the kinds of its fields.
-fn line_of_class<W: fmt::Write>(unit: &Unit, class: u16, parent: u16, f: &mut fmt::Formatter<W>) -> fmt::Result {
+fn line_of_class<W: fmt::Write>(
+    unit: &Unit,
+    class: u16,
+    parent: u16,
+    f: &mut fmt::Formatter<W>,
+) -> fmt::Result {
     if class == 0 {
         write!(f, "class {class}: root, ")?;
     } else {
@@ -57,7 +65,12 @@ fn line_of_class<W: fmt::Write>(unit: &Unit, class: u16, parent: u16, f: &mut fm
 }
 
 /// The kinds of the fields of a class.
-fn fields<W: fmt::Write>(unit: &Unit, class: u16, count: u8, f: &mut fmt::Formatter<W>) -> fmt::Result {
+fn fields<W: fmt::Write>(
+    unit: &Unit,
+    class: u16,
+    count: u8,
+    f: &mut fmt::Formatter<W>,
+) -> fmt::Result {
     for field in 0..count {
         if let Some(kind) = unit.field(class, field) {
             write!(f, " {}", KindName(kind))?;

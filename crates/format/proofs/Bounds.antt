@@ -60,7 +60,7 @@ passes-bounds bs p =
       shallow = leb-true _ _ (and-parts (eqb (byteAt bs 3) 1) _ (and-parts (eqb (placesOf bs .classes) 5) _ (p .head) .1) .1);
       few-fields = λ c l. class-few bs (layoutIn bs .classes) c (p .classes .each c l);
       lower-parent = λ c z l. class-lower bs (layoutIn bs .classes) c z (p .classes .each c l);
-      opcodes-exist = λ i l. instruction-exists bs (layoutIn bs) i (p .code .each i l)
+      opcodes-exist = λ i l. instruction-exists bs (layoutIn bs) i (p .code .each i l);
     }
 
 pub kept-bounds : (bs : List ℕ) (l : Layout) → layoutNumbers (reading bs) ≡ spread l → Bounds bs l

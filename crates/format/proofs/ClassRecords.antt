@@ -110,14 +110,14 @@ module _ (bs : List ℕ) (l : Layout) (c : ℕ) (bytes : AllBytes bs) (few : l .
               let n : k < countAt bs at = omega (arith, passed-extends z .0) in
               field-view bs l c k here n
               ∙ ap kindOf (eqb-true _ _ (up-to-at (λ j. eqb (codeAt bs at j) (codeAt bs up j)) (countAt bs up) k (passed-extends z .1) m))
-              ∙ sym (parent-field (passed-lower z) k m)
+              ∙ sym (parent-field (passed-lower z) k m);
         }
 
     to-right : ClassRight bs l c
     to-right =
         record {
           here = class-here bs at bytes within passed-few passed-unused ∙ ap classBytes (sym (class-view bs l c here));
-          rule = to-rule
+          rule = to-rule;
         }
 
   -- from the rule to the test
@@ -132,12 +132,12 @@ module _ (bs : List ℕ) (l : Layout) (c : ℕ) (bytes : AllBytes bs) (few : l .
     kept-field k h =
         ⊎-elim
         (λ (m : k < countAt bs at).
-          cond-true (ltb k (countAt bs at)) (storable (l .classes .count) (codeAt bs at k)) (eqb (codeAt bs at k) 0) (lt-ltb _ _ m)
-          ∙ decides-storable (l .classes .count) (codeAt bs at k) few .1
-          (moved _ _ _ _ (class-count bs l) (field-view bs l c k here m) (r .rule .storable k (omega (arith, count-said)))))
+        cond-true (ltb k (countAt bs at)) (storable (l .classes .count) (codeAt bs at k)) (eqb (codeAt bs at k) 0) (lt-ltb _ _ m)
+        ∙ decides-storable (l .classes .count) (codeAt bs at k) few .1
+        (moved _ _ _ _ (class-count bs l) (field-view bs l c k here m) (r .rule .storable k (omega (arith, count-said)))))
         (λ (m : countAt bs at ≤ k).
-          cond-false (ltb k (countAt bs at)) (storable (l .classes .count) (codeAt bs at k)) (eqb (codeAt bs at k) 0) (le-ltb _ _ m)
-          ∙ eq-eqb _ _ (kept-unused k m h))
+        cond-false (ltb k (countAt bs at)) (storable (l .classes .count) (codeAt bs at k)) (eqb (codeAt bs at k) 0) (le-ltb _ _ m)
+        ∙ eq-eqb _ _ (kept-unused k m h))
         (cases-lt k (countAt bs at))
 
     kept-lower : 0 < c → wordAt bs at < c
@@ -155,15 +155,15 @@ module _ (bs : List ℕ) (l : Layout) (c : ℕ) (bytes : AllBytes bs) (few : l .
     kept-descends =
         ⊎-elim
         (λ (z : c ≡ 0).
-          cond-true (eqb c 0) (eqb (wordAt bs at) 0 && eqb (countAt bs at) 0) (ltb (wordAt bs at) c && extends bs at up) (eq-eqb c 0 z)
-          ∙ and-from _ _ (eq-eqb _ _ (sym parent-said ∙ r .rule .root z .0)) (eq-eqb _ _ (sym count-said ∙ r .rule .root z .1)))
+        cond-true (eqb c 0) (eqb (wordAt bs at) 0 && eqb (countAt bs at) 0) (ltb (wordAt bs at) c && extends bs at up) (eq-eqb c 0 z)
+        ∙ and-from _ _ (eq-eqb _ _ (sym parent-said ∙ r .rule .root z .0)) (eq-eqb _ _ (sym count-said ∙ r .rule .root z .1)))
         (λ (ne : c ≡ 0 → ⊥).
-          let z : 0 < c = omega (arith, ne) in
-          cond-false (eqb c 0) (eqb (wordAt bs at) 0 && eqb (countAt bs at) 0) (ltb (wordAt bs at) c && extends bs at up) (ne-eqb c 0 ne)
-          ∙ and-from (ltb (wordAt bs at) c) (extends bs at up) (lt-ltb _ _ (kept-lower z))
-          (and-from (leb (countAt bs up) (countAt bs at)) (upTo (countAt bs up) (λ k. eqb (codeAt bs at k) (codeAt bs up k)))
-          (le-leb _ _ (omega (arith, count-said, parent-count (kept-lower z), r .rule .extends z)))
-          (up-to-all (λ k. eqb (codeAt bs at k) (codeAt bs up k)) (countAt bs up) (λ k m. eq-eqb _ _ (same-code z k m)))))
+        let z : 0 < c = omega (arith, ne) in
+        cond-false (eqb c 0) (eqb (wordAt bs at) 0 && eqb (countAt bs at) 0) (ltb (wordAt bs at) c && extends bs at up) (ne-eqb c 0 ne)
+        ∙ and-from (ltb (wordAt bs at) c) (extends bs at up) (lt-ltb _ _ (kept-lower z))
+        (and-from (leb (countAt bs up) (countAt bs at)) (upTo (countAt bs up) (λ k. eqb (codeAt bs at k) (codeAt bs up k)))
+        (le-leb _ _ (omega (arith, count-said, parent-count (kept-lower z), r .rule .extends z)))
+        (up-to-all (λ k. eqb (codeAt bs at k) (codeAt bs up k)) (countAt bs up) (λ k m. eq-eqb _ _ (same-code z k m)))))
         (cases-eq c 0)
 
     from-right : classReads bs (l .classes) c ≡ true

@@ -38,14 +38,15 @@ names-decides bs l Number n = (λ _. tt, λ _. refl)
 names-decides bs l Slot n = below-decides n _ _ (sym (slot-count bs l))
 names-decides bs l Class n = below-decides n _ _ (sym (class-count bs l))
 names-decides bs l Field n =
-    let c = below-decides (n / 8) _ _ (sym (class-count bs l)) in
-    (λ t.
-      let b = and-parts (ltb (n / 8) (l .classes .count)) (ltb (n % 8) (countAt bs (l .classes .start + 19 * (n / 8)))) t in
-      (c .0 (b .0), omega (arith, ltb-true _ _ (b .1), field-count-view bs l (n / 8) (ltb-true _ _ (b .0)))),
-    λ h.
-      let k : n / 8 < l .classes .count = ltb-true _ _ (c .1 (h .0)) in
-      and-from (ltb (n / 8) (l .classes .count)) (ltb (n % 8) (countAt bs (l .classes .start + 19 * (n / 8)))) (c .1 (h .0))
-      (lt-ltb _ _ (omega (arith, h .1, field-count-view bs l (n / 8) k))))
+    let c = below-decides (n / 8) _ _ (sym (class-count bs l)) in (
+      λ t.
+          let b = and-parts (ltb (n / 8) (l .classes .count)) (ltb (n % 8) (countAt bs (l .classes .start + 19 * (n / 8)))) t in
+          (c .0 (b .0), omega (arith, ltb-true _ _ (b .1), field-count-view bs l (n / 8) (ltb-true _ _ (b .0)))),
+      λ h.
+          let k : n / 8 < l .classes .count = ltb-true _ _ (c .1 (h .0)) in
+          and-from (ltb (n / 8) (l .classes .count)) (ltb (n % 8) (countAt bs (l .classes .start + 19 * (n / 8)))) (c .1 (h .0))
+          (lt-ltb _ _ (omega (arith, h .1, field-count-view bs l (n / 8) k))),
+    )
 names-decides bs l Target n = below-decides n _ _ (sym (code-count bs l))
 
 -- what the code rule asks of an instruction
@@ -71,7 +72,7 @@ module _ (bs : List ℕ) (l : Layout) (i : ℕ) (bytes : AllBytes bs) (here : i 
             ∙ ap instructionBytes (sym view);
         rule =
             subst (asked (partsAt bs l)) (sym view)
-            (subst (λ (y : Line). Names (partsAt bs l) (y .sort) (wordAt bs (at + 1))) (ap lineAt (sym number)) names)
+            (subst (λ (y : Line). Names (partsAt bs l) (y .sort) (wordAt bs (at + 1))) (ap lineAt (sym number)) names);
       }
 
   exists : CodeRight bs l i → byteAt bs (l .code .start + 3 * i) < 15
@@ -89,8 +90,9 @@ module _ (bs : List ℕ) (l : Layout) (i : ℕ) (bytes : AllBytes bs) (here : i 
 
   pub code-decides : Decides (instructionReads bs l i) (CodeRight bs l i)
   code-decides =
-      let d = names-decides bs l (lineAt (byteAt bs (l .code .start + 3 * i)) .sort) (wordAt bs (l .code .start + 3 * i + 1)) in
-      (λ t.
-        let b = and-parts (ltb (byteAt bs (l .code .start + 3 * i)) 15) (namesTest bs l (lineAt (byteAt bs (l .code .start + 3 * i)) .sort) (wordAt bs (l .code .start + 3 * i + 1))) t in
-        to-right (ltb-true _ _ (b .0)) (d .0 (b .1)),
-      λ r. and-from (ltb (byteAt bs (l .code .start + 3 * i)) 15) (namesTest bs l (lineAt (byteAt bs (l .code .start + 3 * i)) .sort) (wordAt bs (l .code .start + 3 * i + 1))) (lt-ltb _ _ (exists r)) (d .1 (from-right r)))
+      let d = names-decides bs l (lineAt (byteAt bs (l .code .start + 3 * i)) .sort) (wordAt bs (l .code .start + 3 * i + 1)) in (
+        λ t.
+            let b = and-parts (ltb (byteAt bs (l .code .start + 3 * i)) 15) (namesTest bs l (lineAt (byteAt bs (l .code .start + 3 * i)) .sort) (wordAt bs (l .code .start + 3 * i + 1))) t in
+            to-right (ltb-true _ _ (b .0)) (d .0 (b .1)),
+        λ r. and-from (ltb (byteAt bs (l .code .start + 3 * i)) 15) (namesTest bs l (lineAt (byteAt bs (l .code .start + 3 * i)) .sort) (wordAt bs (l .code .start + 3 * i + 1))) (lt-ltb _ _ (exists r)) (d .1 (from-right r)),
+      )

@@ -45,20 +45,20 @@ stands-there : (bs before body rest : List ℕ) (tag at : ℕ) → bs ≡ before
 stands-there bs before body rest tag at h n =
     let len : length (field tag body) ≡ 3 + length body = omega arith in
     let there : FieldAt bs tag at (at + 3 + length body) = record {
-          body = body;
-          ends = refl;
-          here =
-              ap (λ xs. slice xs at (3 + length body)) h
-              ∙ ap (take (3 + length body)) (drop-at before (field tag body ++ rest) at n)
-              ∙ take-at (field tag body) rest (3 + length body) len
-        } in
+      body = body;
+      ends = refl;
+      here =
+          ap (λ xs. slice xs at (3 + length body)) h
+          ∙ ap (take (3 + length body)) (drop-at before (field tag body ++ rest) at n)
+          ∙ take-at (field tag body) rest (3 + length body) len;
+    } in
     let e : fieldEnd bs at ≡ at + 3 + length body = stands-framed bs tag at _ there .1 in
     record {
       stands = subst (λ (k : ℕ). FieldAt bs tag at k) (sym e) there;
       contents = ap (λ k. slice bs (at + 3) (bodyLength at k)) e ∙ field-body bs tag at _ there;
       size = omega (arith, e);
       after = h ∙ sym (append-assoc before (field tag body) rest);
-      reach = length-append before (field tag body) ∙ omega (arith, e, n, len)
+      reach = length-append before (field tag body) ∙ omega (arith, e, n, len);
     }
 
 -- a table whose records have been found, one by one, is the list of them
@@ -66,8 +66,8 @@ table-said : {A : Type 0} (n : ℕ) (g : ℕ → A) (d : A) (xs : List A) → le
 table-said n g d xs len each =
     ext-getD d (tabulate n g) xs (length-tabulate n g ∙ sym len)
     (λ i l.
-      let m : i < n = omega (arith, length-tabulate n g) in
-      getD-tabulate n g d i m ∙ each i m)
+    let m : i < n = omega (arith, length-tabulate n g) in
+    getD-tabulate n g d i m ∙ each i m)
 
 -- a table that is found in a field: its size, how many records it has, and where each lies
 pub record Found {A : Type 0} (bs : List ℕ) (at next w most : ℕ) (f : A → List ℕ) (d : A) (xs : List A) : Type 0 where
@@ -87,7 +87,7 @@ found bs at next w most f d xs p some few each here size =
           λ i l.
           let m : i < length xs = omega (arith, n) in
           let fits : w * i + w ≤ bodyLength at next = omega (arith, total, mul-suc w i, mul-le-mul-left w m) in
-          sym (slice-slice bs (at + 3) (bodyLength at next) (w * i) w fits) ∙ ap (λ ys. slice ys (w * i) w) here ∙ chunk-at f w d xs each i m
+          sym (slice-slice bs (at + 3) (bodyLength at next) (w * i) w fits) ∙ ap (λ ys. slice ys (w * i) w) here ∙ chunk-at f w d xs each i m;
     }
 
 module _ (bs : List ℕ) (bytes : AllBytes bs) (q : Parts) (h : bs ≡ encode q) (k : Keeps q) where
@@ -129,7 +129,7 @@ module _ (bs : List ℕ) (bytes : AllBytes bs) (q : Parts) (h : bs ≡ encode q)
         classes = two .stands;
         slots = three .stands;
         code = four .stands;
-        whole = sym (four .reach) ∙ ap length (sym (append-nil (before-end ++ field 4 b₄)) ∙ sym (four .after))
+        whole = sym (four .reach) ∙ ap length (sym (append-nil (before-end ++ field 4 b₄)) ∙ sym (four .after));
       }
 
   depth-said : said bs .depth ≡ q .depth
@@ -164,16 +164,16 @@ module _ (bs : List ℕ) (bytes : AllBytes bs) (q : Parts) (h : bs ≡ encode q)
   classes-said =
       table-said (layoutIn bs .classes .count) (λ i. classAt bs (placesOf bs .classes + 3 + 19 * i)) noClass (q .classes) (classes .count)
       (λ i l.
-        let r : ClassRule q i = k .classes-keep i (omega (arith, classes .count)) in
-        class-said bs (placesOf bs .classes + 3 + 19 * i) (classOf q i) (classes .record-at i l) (r .few)
-        (λ j m. kind-of-code (length (q .classes)) (getD (classOf q i .fields) j Int) (k .most-classes) (r .storable j m)))
+      let r : ClassRule q i = k .classes-keep i (omega (arith, classes .count)) in
+      class-said bs (placesOf bs .classes + 3 + 19 * i) (classOf q i) (classes .record-at i l) (r .few)
+      (λ j m. kind-of-code (length (q .classes)) (getD (classOf q i .fields) j Int) (k .most-classes) (r .storable j m)))
 
   slots-said : said bs .slots ≡ q .slots
   slots-said =
       table-said (layoutIn bs .slots .count) (λ i. kindAt bs (placesOf bs .slots + 3 + 2 * i)) Int (q .slots) (slots .count)
       (λ i l.
-        let r : SlotRule q i = k .slots-keep i (omega (arith, slots .count)) in
-        kind-said bs (placesOf bs .slots + 3 + 2 * i) (slotOf q i) (kind-of-code (length (q .classes)) (slotOf q i) (k .most-classes) (r .storable)) (slots .record-at i l))
+      let r : SlotRule q i = k .slots-keep i (omega (arith, slots .count)) in
+      kind-said bs (placesOf bs .slots + 3 + 2 * i) (slotOf q i) (kind-of-code (length (q .classes)) (slotOf q i) (k .most-classes) (r .storable)) (slots .record-at i l))
 
   code-said : said bs .code ≡ q .code
   code-said =
@@ -192,8 +192,8 @@ module _ (bs : List ℕ) (bytes : AllBytes bs) (q : Parts) (h : bs ≡ encode q)
             λ i l.
             record {
               here = classes .record-at i l ∙ ap (λ p. classBytes (classOf p i)) (sym parts-said);
-              rule = subst (λ (p : Parts). ClassRule p i) (sym parts-said) (k .classes-keep i (omega (arith, classes .count)))
-            }
+              rule = subst (λ (p : Parts). ClassRule p i) (sym parts-said) (k .classes-keep i (omega (arith, classes .count)));
+            };
       }
 
   slots-right : SlotsRight bs
@@ -204,8 +204,8 @@ module _ (bs : List ℕ) (bytes : AllBytes bs) (q : Parts) (h : bs ≡ encode q)
             λ i l.
             record {
               here = slots .record-at i l ∙ ap (λ p. kindBytes (slotOf p i)) (sym parts-said);
-              rule = subst (λ (p : Parts). SlotRule p i) (sym parts-said) (k .slots-keep i (omega (arith, slots .count)))
-            }
+              rule = subst (λ (p : Parts). SlotRule p i) (sym parts-said) (k .slots-keep i (omega (arith, slots .count)));
+            };
       }
 
   code-right : CodeIsRight bs
@@ -216,8 +216,8 @@ module _ (bs : List ℕ) (bytes : AllBytes bs) (q : Parts) (h : bs ≡ encode q)
             λ i l.
             record {
               here = code .record-at i l ∙ ap (λ p. instructionBytes (instructionOf p i)) (sym parts-said);
-              rule = subst (λ (p : Parts). CodeRule p i) (sym parts-said) (k .code-keeps i (omega (arith, code .count)))
-            }
+              rule = subst (λ (p : Parts). CodeRule p i) (sym parts-said) (k .code-keeps i (omega (arith, code .count)));
+            };
       }
 
   pub all-pass : Passes bs
@@ -228,7 +228,7 @@ module _ (bs : List ℕ) (bytes : AllBytes bs) (q : Parts) (h : bs ≡ encode q)
         head = right-head bs f head;
         classes = classes-decide bs bytes f .1 classes-right;
         slots = slots-decide bs bytes f (classes .is-sized) .1 slots-right;
-        code = code-decide bs bytes f .1 code-right
+        code = code-decide bs bytes f .1 code-right;
       }
 
 pub encodes-passes : (bs : List ℕ) (q : Parts) → AllBytes bs → Encodes bs q → Passes bs × (said bs ≡ q)

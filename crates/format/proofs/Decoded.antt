@@ -41,8 +41,12 @@ kinds-length ks = length-joined kindBytes 2 Int ks (λ j l. refl)
 
 pub length-class : (x : ClassParts) → length (x .fields) ≤ 8 → length (classBytes x) ≡ 19
 length-class x h =
-    omega (arith, length-append (joined kindBytes (x .fields)) (replicate (2 * (8 - length (x .fields))) 0), kinds-length (x .fields),
-    length-replicate {A = ℕ} (2 * (8 - length (x .fields))) 0)
+    omega (
+      arith,
+      length-append (joined kindBytes (x .fields)) (replicate (2 * (8 - length (x .fields))) 0),
+      kinds-length (x .fields),
+      length-replicate {A = ℕ} (2 * (8 - length (x .fields))) 0,
+    )
 
 -- kind k of kinds that are followed by more
 kind-chunk : (ks : List Kind) (zs : List ℕ) (k : ℕ) → k < length ks → slice (joined kindBytes ks ++ zs) (2 * k) 2 ≡ kindBytes (getD ks k Int)
@@ -79,5 +83,5 @@ module _ (bs : List ℕ) (at : ℕ) (x : ClassParts) (h : slice bs at 19 ≡ cla
       (ext-getD Int (tabulate (countAt bs at) (λ k. kindAt bs (at + 3 + 2 * k))) (x .fields)
       (length-tabulate (countAt bs at) (λ k. kindAt bs (at + 3 + 2 * k)) ∙ count-said)
       (λ i l.
-        let m : i < countAt bs at = omega (arith, length-tabulate (countAt bs at) (λ k. kindAt bs (at + 3 + 2 * k))) in
-        getD-tabulate (countAt bs at) (λ k. kindAt bs (at + 3 + 2 * k)) Int i m ∙ field-said i (omega (arith, count-said))))
+      let m : i < countAt bs at = omega (arith, length-tabulate (countAt bs at) (λ k. kindAt bs (at + 3 + 2 * k))) in
+      getD-tabulate (countAt bs at) (λ k. kindAt bs (at + 3 + 2 * k)) Int i m ∙ field-said i (omega (arith, count-said))))

@@ -51,7 +51,7 @@ framed-stands bs tag at bytes h =
       here =
           ap (λ k. slice bs at (3 + k)) size ∙ three bs at n (p .header)
           ∙ ap (λ t. t ∷ byteAt bs (at + 1) ∷ byteAt bs (at + 1 + 1) ∷ body) (p .tagged)
-          ∙ ap (λ ws. tag ∷ (ws ++ body)) (sym two)
+          ∙ ap (λ ws. tag ∷ (ws ++ body)) (sym two);
     }
 
 pub stands-framed : (bs : List ℕ) (tag at next : ℕ) → FieldAt bs tag at next → (framedAt bs tag at ≡ true) × (fieldEnd bs at ≡ next)
@@ -64,9 +64,11 @@ stands-framed bs tag at next f =
     let hi : byteAt bs (at + 1) ≡ n / 256 = sym (slice-at bs at (3 + n) 1 (omega arith)) ∙ ap (λ xs. byteAt xs 1) (f .here) in
     let s : at + 2 ≡ at + 1 + 1 = omega arith in
     let lo : byteAt bs (at + 1 + 1) ≡ n % 256 = ap (byteAt bs) (sym s) ∙ sym (slice-at bs at (3 + n) 2 (omega arith)) ∙ ap (λ xs. byteAt xs 2) (f .here) in
-    let w : wordAt bs (at + 1) ≡ n = omega (arith, hi, lo, number-of n) in
-    (and-from (leb (at + 3) (length bs)) (eqb (byteAt bs at) tag && leb (fieldEnd bs at) (length bs)) (le-leb _ _ (omega (arith, fits)))
-    (and-from (eqb (byteAt bs at) tag) (leb (fieldEnd bs at) (length bs)) (eq-eqb _ _ t) (le-leb _ _ (omega (arith, fits, w)))), omega (arith, w, f .ends))
+    let w : wordAt bs (at + 1) ≡ n = omega (arith, hi, lo, number-of n) in (
+      and-from (leb (at + 3) (length bs)) (eqb (byteAt bs at) tag && leb (fieldEnd bs at) (length bs)) (le-leb _ _ (omega (arith, fits)))
+          (and-from (eqb (byteAt bs at) tag) (leb (fieldEnd bs at) (length bs)) (eq-eqb _ _ t) (le-leb _ _ (omega (arith, fits, w)))),
+      omega (arith, w, f .ends),
+    )
 
 pub frame-right : (bs : List ℕ) → AllBytes bs → FramePasses bs → FrameRight bs
 frame-right bs bytes p =
@@ -75,7 +77,7 @@ frame-right bs bytes p =
       classes = framed-stands bs 2 (placesOf bs .classes) bytes (p .second);
       slots = framed-stands bs 3 (placesOf bs .slots) bytes (p .third);
       code = framed-stands bs 4 (placesOf bs .code) bytes (p .fourth);
-      whole = p .whole
+      whole = p .whole;
     }
 
 pub right-frame : (bs : List ℕ) → FrameRight bs → FramePasses bs
@@ -85,7 +87,7 @@ right-frame bs r =
       second = stands-framed bs 2 (placesOf bs .classes) _ (r .classes) .0;
       third = stands-framed bs 3 (placesOf bs .slots) _ (r .slots) .0;
       fourth = stands-framed bs 4 (placesOf bs .code) _ (r .code) .0;
-      whole = r .whole
+      whole = r .whole;
     }
 
 -- the contents of a field that stands at a place

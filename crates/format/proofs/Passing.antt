@@ -67,7 +67,7 @@ gathered ns =
       depth = getD ns 0 0;
       classes = record { start = getD ns 1 0; count = getD ns 2 0 };
       slots = record { start = getD ns 3 0; count = getD ns 4 0 };
-      code = record { start = getD ns 5 0; count = getD ns 6 0 }
+      code = record { start = getD ns 5 0; count = getD ns 6 0 };
     }
 
 spread-same : (k l : Layout) → spread k ≡ spread l → k ≡ l

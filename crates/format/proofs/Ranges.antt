@@ -42,8 +42,8 @@ first-some f i (suc n) k lo hi h e =
     ⊎-elim
     (λ (s : i ≡ k). cond-false (f i) _ _ (ap f s ∙ e) ∙ ap Some s)
     (λ (ne : i ≡ k → ⊥).
-      cond-true (f i) _ _ (h i (omega arith) (omega (arith, ne)))
-      ∙ first-some f (suc i) n k (omega (arith, ne)) (omega arith) (λ j l m. h j (omega arith) m) e)
+    cond-true (f i) _ _ (h i (omega arith) (omega (arith, ne)))
+    ∙ first-some f (suc i) n k (omega (arith, ne)) (omega arith) (λ j l m. h j (omega arith) m) e)
     (cases-eq i k)
 
 pub first-none-at : (f : ℕ → Bool) (i n : ℕ) → firstFailing f i n ≡ None → (k : ℕ) → i ≤ k → k < i + n → f k ≡ true
@@ -81,7 +81,7 @@ first-some-at f i (suc n) k h = step (f i) refl h (first-some-at f (suc i) n k)
               ⊎-elim
               (λ (s : i ≡ j). sym (ap f s) ∙ e)
               (λ (ne : i ≡ j → ⊥). later .before j (omega (arith, ne)) hi)
-              (cases-eq i j)
+              (cases-eq i j);
         }
     step false e r rest =
         let s : i ≡ k = cc in

@@ -63,7 +63,7 @@ field-err : {A : Type 0} (bs : List ℕ) (tag at : ℕ) (x : ReadError) (rest : 
 field-err bs tag at x rest bytes l up h =
     ⊎-elim
     (λ (a : (framedAt bs tag at ≡ false) × (Framing at ≡ x)).
-      inl (subst (λ (e : ReadError). FirstWrong bs e) (a .1) (inl (tag, l, up, not-there bs tag at (a .0)))))
+    inl (subst (λ (e : ReadError). FirstWrong bs e) (a .1) (inl (tag, l, up, not-there bs tag at (a .0)))))
     (λ (a : (framedAt bs tag at ≡ true) × (rest ≡ Err x)). inr a)
     (guard-err (framedAt bs tag at) (Framing at) x rest h)
 
@@ -85,10 +85,10 @@ module _ (bs : List ℕ) (bytes : AllBytes bs) where
   left-over x rest h up g =
       ⊎-elim
       (λ (a : (eqb (placesOf bs .end) (length bs) ≡ false) × (Framing (placesOf bs .end) ≡ x)).
-        let ne = eqb-false (placesOf bs .end) (length bs) (a .0) in
-        let le = framed-parts bs 4 (placesOf bs .code) h .within in
-        inl (subst (λ (e : ReadError). FirstWrong bs e) (a .1)
-        (inr (more up (framed-stands bs 4 (placesOf bs .code) bytes h), omega (arith, ne, le)))))
+      let ne = eqb-false (placesOf bs .end) (length bs) (a .0) in
+      let le = framed-parts bs 4 (placesOf bs .code) h .within in
+      inl (subst (λ (e : ReadError). FirstWrong bs e) (a .1)
+      (inr (more up (framed-stands bs 4 (placesOf bs .code) bytes h), omega (arith, ne, le)))))
       (λ (a : (eqb (placesOf bs .end) (length bs) ≡ true) × (rest ≡ Err x)). inr (eqb-true _ _ (a .0), a .1))
       (guard-err (eqb (placesOf bs .end) (length bs)) (Framing (placesOf bs .end)) x rest g)
 
@@ -110,8 +110,8 @@ module _ (bs : List ℕ) (bytes : AllBytes bs) where
     head-err x rest h =
         ⊎-elim
         (λ (a : (headReads bs (placesOf bs) ≡ false) × (Head ≡ x)).
-          inl (subst (λ (e : ReadError). FirstWrong bs e) (a .1)
-          (framed, λ r. both-ways (headReads bs (placesOf bs)) (a .0) (right-head bs f r))))
+        inl (subst (λ (e : ReadError). FirstWrong bs e) (a .1)
+        (framed, λ r. both-ways (headReads bs (placesOf bs)) (a .0) (right-head bs f r))))
         (λ (a : (headReads bs (placesOf bs) ≡ true) × (rest ≡ Err x)). inr a)
         (guard-err (headReads bs (placesOf bs)) Head x rest h)
 
@@ -122,7 +122,7 @@ module _ (bs : List ℕ) (bytes : AllBytes bs) where
         (λ (a : (test ≡ false) × (error 0 ≡ x)). inl (subst (λ (e : ReadError). FirstWrong bs e) (a .1) (wrong 0 (size-wrong test size n right s (a .0)))))
         (⊎-elim
         (λ (a : (test ≡ true) × ((i : ℕ) × First reads 0 n i × (error i ≡ x))).
-          inl (subst (λ (e : ReadError). FirstWrong bs e) (a .1 .2) (wrong (a .1 .0) (record-wrong test size n reads right s each (a .0) (a .1 .0) (a .1 .1)))))
+        inl (subst (λ (e : ReadError). FirstWrong bs e) (a .1 .2) (wrong (a .1 .0) (record-wrong test size n reads right s each (a .0) (a .1 .0) (a .1 .1)))))
         (λ (a : TablePasses test n reads × (rest ≡ Err x)). inr a))
         (table-err test n reads error x rest h)
 
@@ -141,6 +141,7 @@ module _ (bs : List ℕ) (bytes : AllBytes bs) where
     where
       ended : _≡_ {A = Result Layout ReadError} (Ok (layoutIn bs)) (Err x) → FirstWrong bs x ⊎ ⊥
       ended e = let z : _≡_ {A = ℕ} 0 1 = cc in absurd (omega arith)
+
       only : FirstWrong bs x ⊎ ⊥ → FirstWrong bs x
       only (inl w) = w
       only (inr w) = absurd w

@@ -23,9 +23,10 @@ decides-sized w most n p = (sized-right w most n, right-sized w most n p)
 
 -- a table's records, where its size is right
 pub table-decides : (test : Bool) (size : Type 0) (count : ℕ) (reads : ℕ → Bool) (right : ℕ → Type 0) → Decides test size → (size → (i : ℕ) → i < count → Decides (reads i) (right i)) → (TablePasses test count reads → TableRight size count right) × (TableRight size count right → TablePasses test count reads)
-table-decides test size count reads right s each =
-    (λ p. record { size-right = s .0 (p .are-sized); each = λ i l. each (s .0 (p .are-sized)) i l .0 (p .each i l) },
-    λ r. record { are-sized = s .1 (r .size-right); each = λ i l. each (r .size-right) i l .1 (r .each i l) })
+table-decides test size count reads right s each = (
+  λ p. record { size-right = s .0 (p .are-sized); each = λ i l. each (s .0 (p .are-sized)) i l .0 (p .each i l) },
+  λ r. record { are-sized = s .1 (r .size-right); each = λ i l. each (r .size-right) i l .1 (r .each i l) },
+)
 
 module _ (bs : List ℕ) (bytes : AllBytes bs) (f : FramePasses bs) where
   order : Framed (length bs) (placesOf bs)

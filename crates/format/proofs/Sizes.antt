@@ -56,7 +56,7 @@ head-right bs p h =
       here =
           ap (λ k. slice bs 3 (bodyLength 0 k)) five ∙ two bs (omega (arith, five, fits))
           ∙ ap (λ v. v ∷ byteAt bs 4 ∷ []) (eqb-true (byteAt bs 3) 1 (b .0));
-      shallow = leb-true _ _ (b .1)
+      shallow = leb-true _ _ (b .1);
     }
 
 pub right-head : (bs : List ℕ) → FramePasses bs → HeadRight bs → headReads bs (placesOf bs) ≡ true

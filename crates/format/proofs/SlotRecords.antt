@@ -58,9 +58,10 @@ module _ (bs : List ℕ) (l : Layout) (i : ℕ) (bytes : AllBytes bs) (few : l .
 
   rule-first : i ≡ 0 → Decides (ltb code (l .classes .count)) (SlotRule (partsAt bs l) i)
   rule-first z =
-      let d = decides-class (l .classes .count) code few in
-      (λ t. record { storable = holds (d .0 t .0); vessel = λ _. subst (λ (x : Kind). IsClass x) view (d .0 t .1) },
-      λ r. d .1 (holds-back (r .storable), subst (λ (x : Kind). IsClass x) (sym view) (r .vessel z)))
+      let d = decides-class (l .classes .count) code few in (
+        λ t. record { storable = holds (d .0 t .0); vessel = λ _. subst (λ (x : Kind). IsClass x) view (d .0 t .1) },
+        λ r. d .1 (holds-back (r .storable), subst (λ (x : Kind). IsClass x) (sym view) (r .vessel z)),
+      )
 
   rule-later : (i ≡ 0 → ⊥) → Decides (storable (l .classes .count) code) (SlotRule (partsAt bs l) i)
   rule-later z =
@@ -72,9 +73,9 @@ module _ (bs : List ℕ) (l : Layout) (i : ℕ) (bytes : AllBytes bs) (few : l .
   slot-decides =
       ⊎-elim
       (λ (z : i ≡ 0).
-        let c = cond-true (eqb i 0) (ltb code (l .classes .count)) (storable (l .classes .count) code) (eq-eqb i 0 z) in
-        (λ t. record { here = bytes-right; rule = rule-first z .0 (sym c ∙ t) }, λ r. c ∙ rule-first z .1 (r .rule)))
+      let c = cond-true (eqb i 0) (ltb code (l .classes .count)) (storable (l .classes .count) code) (eq-eqb i 0 z) in
+      (λ t. record { here = bytes-right; rule = rule-first z .0 (sym c ∙ t) }, λ r. c ∙ rule-first z .1 (r .rule)))
       (λ (z : i ≡ 0 → ⊥).
-        let c = cond-false (eqb i 0) (ltb code (l .classes .count)) (storable (l .classes .count) code) (ne-eqb i 0 z) in
-        (λ t. record { here = bytes-right; rule = rule-later z .0 (sym c ∙ t) }, λ r. c ∙ rule-later z .1 (r .rule)))
+      let c = cond-false (eqb i 0) (ltb code (l .classes .count)) (storable (l .classes .count) code) (ne-eqb i 0 z) in
+      (λ t. record { here = bytes-right; rule = rule-later z .0 (sym c ∙ t) }, λ r. c ∙ rule-later z .1 (r .rule)))
       (cases-eq i 0)

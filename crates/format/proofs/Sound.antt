@@ -105,8 +105,11 @@ module _ (bs : List ℕ) (bytes : AllBytes bs) (f : FrameRight bs) (h : HeadRigh
             λ i l.
             let m : i < layoutIn bs .code .count = omega (arith, code-count bs (layoutIn bs)) in
             let w = within-code i m in
-            omega (arith, ap (λ (x : Instruction). x .operand) (instruction-view bs (layoutIn bs) i m),
-            word-below bs (placesOf bs .code + 3 + 3 * i + 1) (bytes (placesOf bs .code + 3 + 3 * i + 1) (omega arith)) (bytes (placesOf bs .code + 3 + 3 * i + 1 + 1) (omega arith)))
+            omega (
+              arith,
+              ap (λ (x : Instruction). x .operand) (instruction-view bs (layoutIn bs) i m),
+              word-below bs (placesOf bs .code + 3 + 3 * i + 1) (bytes (placesOf bs .code + 3 + 3 * i + 1) (omega arith)) (bytes (placesOf bs .code + 3 + 3 * i + 1 + 1) (omega arith)),
+            );
       }
 
 pub passes-encodes : (bs : List ℕ) → AllBytes bs → Passes bs → Encodes bs (said bs)

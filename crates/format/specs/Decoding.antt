@@ -25,5 +25,5 @@ partsAt bs l =
       depth = l .depth;
       classes = tabulate (l .classes .count) (λ i. classAt bs (l .classes .start + 19 * i));
       slots = tabulate (l .slots .count) (λ i. kindAt bs (l .slots .start + 2 * i));
-      code = tabulate (l .code .count) (λ i. instructionAt bs (l .code .start + 3 * i))
+      code = tabulate (l .code .count) (λ i. instructionAt bs (l .code .start + 3 * i));
     }

@@ -37,5 +37,5 @@ exampleRule =
           ∷ instruction Push 1
           ∷ instruction Post 0
           ∷ instruction Return 0
-          ∷ []
+          ∷ [];
     }

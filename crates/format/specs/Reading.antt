@@ -44,7 +44,7 @@ placesOf bs =
       classes = fieldEnd bs 0;
       slots = fieldEnd bs (fieldEnd bs 0);
       code = fieldEnd bs (fieldEnd bs (fieldEnd bs 0));
-      end = fieldEnd bs (fieldEnd bs (fieldEnd bs (fieldEnd bs 0)))
+      end = fieldEnd bs (fieldEnd bs (fieldEnd bs (fieldEnd bs 0)));
     }
 
 -- the four fields stand one after another, and nothing after them
@@ -85,7 +85,7 @@ layoutOf bs f =
       depth = byteAt bs 4;
       classes = span 19 (f .classes) (f .slots);
       slots = span 2 (f .slots) (f .code);
-      code = span 3 (f .code) (f .end)
+      code = span 3 (f .code) (f .end);
     }
 
 -- a table of records: first its size, whose place is 0, then each record's own test, from the lowest

@@ -1,8 +1,9 @@
 ghost use mathlib.Core.Path.{_≡_};
 ghost use Rattle.format.specs.Refusals.{readRefusal};
+use std::fmt;
 
 /// Why bytes are no unit: the first thing that is wrong, and where.
-#[derive(Clone, Copy, PartialEq, Eq, Debug)]
+#[derive(Clone, Copy)]
 pub enum ReadError {
     /// A field does not stand whole at this byte, or bytes are left over from it on.
     Framing(usize),
@@ -17,13 +18,27 @@ pub enum ReadError {
 }
 
 /// A refusal as five numbers; those that say nothing are 0.
-#[derive(Clone, Copy, PartialEq, Eq, Debug)]
+#[derive(Clone, Copy)]
 pub struct Refusal {
     pub number: u8,
     pub place: usize,
     pub layer: u8,
     pub fault: u8,
     pub detail: usize,
+}
+
+pub impl fmt::Display for Refusal as RefusalDisplay {
+    fn fmt<W: fmt::Write>(&self, f: &mut fmt::Formatter<W>) -> fmt::Result {
+        let number = self.number;
+        let place = self.place;
+        let layer = self.layer;
+        let fault = self.fault;
+        let detail = self.detail;
+        write!(
+            f,
+            "{number} place {place} layer {layer} fault {fault} detail {detail}"
+        )
+    }
 }
 
 impl ReadError {
@@ -38,6 +53,12 @@ impl ReadError {
             ReadError::Slot(slot) => (4, slot),
             ReadError::Code(instruction) => (5, instruction),
         };
-        Refusal { number, place, layer: 0, fault: 0, detail: 0 }
+        Refusal {
+            number,
+            place,
+            layer: 0,
+            fault: 0,
+            detail: 0,
+        }
     }
 }

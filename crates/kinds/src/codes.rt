@@ -3,7 +3,9 @@ ghost use Rattle.kinds.specs.Codes.{kindOf, kindCode};
 use crate::kind::Kind;
 
 const INT: u16 = 0xFFFF;
+
 const NULL: u16 = 0xFFFE;
+
 const UNUSABLE: u16 = 0xFFFD;
 
 impl Kind {

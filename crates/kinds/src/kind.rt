@@ -1,5 +1,5 @@
 /// What a value may be used as.
-#[derive(Clone, Copy, PartialEq, Eq, Debug)]
+#[derive(Clone, Copy)]
 pub enum Kind {
     /// A signed 32-bit number.
     Int,

@@ -1,5 +1,5 @@
 /// The instructions, in the order of their numbers in a file, from 0.
-#[derive(Clone, Copy, PartialEq, Eq, Debug)]
+#[derive(Clone, Copy)]
 pub enum Opcode {
     Push,
     Nil,

@@ -30,6 +30,6 @@ module _ (p : Parts) (bs : List ℕ) (at c k : ℕ) (here : classOf p c ≡ clas
   field-here x l m e =
       ap Some
       (e ∙ sym (ap (λ (y : ClassParts). getD (y .fields) k Int) here
-        ∙ getD-tabulate (countAt bs at) (λ j. kindAt bs (at + 3 + 2 * j)) Int k m))
+      ∙ getD-tabulate (countAt bs at) (λ j. kindAt bs (at + 3 + 2 * j)) Int k m))
       ∙ sym (cond-true (ltb c (length (p .classes)) && ltb k (fieldCount p c)) (Some (fieldOf p c k)) None
       (and-from (ltb c (length (p .classes))) (ltb k (fieldCount p c)) (lt-ltb c _ l) (lt-ltb k _ (omega (arith, count-here)))))

@@ -7,28 +7,27 @@ use crate::unit::Unit;
 use format::layout::Layout;
 use format::layout::Span;
 
-/// The bytes of the built-in rule, a line for each record.
-const RULE: [u8; 124] = [
-    0x01, 0x00, 0x02, 0x01, 0x02,
-    0x02, 0x00, 0x4C,
-    0x00, 0x00, 0x00, 0x00, 0x00, 0x00, 0x00, 0x00, 0x00, 0x00, 0x00, 0x00, 0x00, 0x00, 0x00, 0x00, 0x00, 0x00, 0x00,
-    0x00, 0x00, 0x01, 0xFF, 0xFF, 0x00, 0x00, 0x00, 0x00, 0x00, 0x00, 0x00, 0x00, 0x00, 0x00, 0x00, 0x00, 0x00, 0x00,
-    0x00, 0x01, 0x02, 0xFF, 0xFF, 0xFF, 0xFF, 0x00, 0x00, 0x00, 0x00, 0x00, 0x00, 0x00, 0x00, 0x00, 0x00, 0x00, 0x00,
-    0x00, 0x01, 0x01, 0xFF, 0xFF, 0x00, 0x00, 0x00, 0x00, 0x00, 0x00, 0x00, 0x00, 0x00, 0x00, 0x00, 0x00, 0x00, 0x00,
-    0x03, 0x00, 0x04,
-    0x00, 0x01, 0xFF, 0xFF,
-    0x04, 0x00, 0x1E,
-    0x02, 0x00, 0x00,
-    0x0B, 0x00, 0x08,
-    0x00, 0x00, 0x28,
-    0x06, 0x00, 0x00,
-    0x08, 0x00, 0x07,
-    0x00, 0x00, 0x02,
-    0x07, 0x00, 0x08,
-    0x00, 0x00, 0x01,
-    0x0D, 0x00, 0x00,
-    0x0E, 0x00, 0x00,
-];
+/// The bytes of the built-in rule: a line for each field's header, the head, each class, the slots, each instruction.
+const RULE: &[u8; 124] = b"\
+    \x01\x00\x02\x01\x02\
+    \x02\x00\x4C\
+    \x00\x00\x00\x00\x00\x00\x00\x00\x00\x00\x00\x00\x00\x00\x00\x00\x00\x00\x00\
+    \x00\x00\x01\xFF\xFF\x00\x00\x00\x00\x00\x00\x00\x00\x00\x00\x00\x00\x00\x00\
+    \x00\x01\x02\xFF\xFF\xFF\xFF\x00\x00\x00\x00\x00\x00\x00\x00\x00\x00\x00\x00\
+    \x00\x01\x01\xFF\xFF\x00\x00\x00\x00\x00\x00\x00\x00\x00\x00\x00\x00\x00\x00\
+    \x03\x00\x04\
+    \x00\x01\xFF\xFF\
+    \x04\x00\x1E\
+    \x02\x00\x00\
+    \x0B\x00\x08\
+    \x00\x00\x28\
+    \x06\x00\x00\
+    \x08\x00\x07\
+    \x00\x00\x02\
+    \x07\x00\x08\
+    \x00\x00\x01\
+    \x0D\x00\x00\
+    \x0E\x00\x00";
 
 impl<'a> Unit<'a> {
     /// The built-in rule, which fills a place until a unit is read into it.
@@ -37,12 +36,18 @@ impl<'a> Unit<'a> {
         ensures parts { λ r. ⌜ partsOf r ≡ exampleRule ⌝ }
     {
         Unit {
-            bytes: &RULE,
+            bytes: RULE,
             layout: Layout {
                 depth: 2,
                 classes: Span { start: 8, count: 4 },
-                slots: Span { start: 87, count: 2 },
-                code: Span { start: 94, count: 10 },
+                slots: Span {
+                    start: 87,
+                    count: 2,
+                },
+                code: Span {
+                    start: 94,
+                    count: 10,
+                },
             },
         }
     }

@@ -12,6 +12,7 @@ use format::layout::Span;
 use format::refusal::ReadError;
 
 const RECORD: usize = 19;
+
 const INT: u16 = 0xFFFF;
 
 /// Whether a code is that of int or of one of so many classes.
@@ -27,7 +28,11 @@ fn field_reads(bytes: &[u8], classes: usize, at: usize, k: usize) -> bool
     ensures { λ r. ⌜ r ≡ fieldReads (now (bytes .entry)) classes at k ⌝ }
 {
     let code = word(bytes, at + 3 + 2 * k);
-    if k < bytes[at + 2] as usize { storable(classes, code) } else { code == 0 }
+    if k < bytes[at + 2] as usize {
+        storable(classes, code)
+    } else {
+        code == 0
+    }
 }
 
 /// Whether all eight field kinds of the record at a place are as they should be.

@@ -23,7 +23,8 @@ fn names(bytes: &[u8], layout: Layout, sort: Sort, n: u16) -> bool
         Sort::Class => n < layout.classes.count,
         Sort::Field => {
             let class = n / 8;
-            class < layout.classes.count && n % 8 < bytes[layout.classes.start + 19 * class + 2] as usize
+            class < layout.classes.count
+                && n % 8 < bytes[layout.classes.start + 19 * class + 2] as usize
         }
         Sort::Target => n < layout.code.count,
     }

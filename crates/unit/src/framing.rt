@@ -40,7 +40,12 @@ pub(crate) fn framing(bytes: &[u8]) -> Result<Frame, ReadError>
     if end != bytes.len() {
         return Err(ReadError::Framing(end));
     }
-    Ok(Frame { classes, slots, code, end })
+    Ok(Frame {
+        classes,
+        slots,
+        code,
+        end,
+    })
 }
 
 /// The depth that the head gives.
@@ -63,5 +68,8 @@ pub(crate) fn table(at: usize, next: usize, width: usize, most: usize) -> Option
     if length == 0 || length % width != 0 || length / width > most {
         return None;
     }
-    Some(Span { start: at + 3, count: length / width })
+    Some(Span {
+        start: at + 3,
+        count: length / width,
+    })
 }

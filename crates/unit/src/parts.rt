@@ -87,6 +87,9 @@ impl<'a> Unit<'a> {
     {
         let place = self.instruction_place(at)?;
         let opcode = Opcode::from_byte(self.bytes[place])?;
-        Some(Instruction { opcode, operand: word(self.bytes, place + 1) })
+        Some(Instruction {
+            opcode,
+            operand: word(self.bytes, place + 1),
+        })
     }
 }

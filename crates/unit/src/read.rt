@@ -3,8 +3,8 @@ ghost use Prim.Native.Nat.{ℕ, _+_, _*_, _<_, _≤_};
 ghost use lib.ListN.{length};
 ghost use Rattle.std.specs.declared.result.Result.the-variants.{Ok, Err};
 ghost use Rattle.format.specs.Reading.{Framed, contents as contentsOf, reading};
-ghost use Rattle.format.specs.Meaning.{IsUnit, NoUnit, FirstWrong};
 ghost use Rattle.unit.specs.Model.{partsOf};
+ghost use Rattle.unit.specs.Outcome.{Outcome, Means};
 use crate::bytes::are_bytes;
 use crate::classes::classes as read_classes;
 use crate::code::first_bad_instruction;
@@ -26,7 +26,12 @@ fn contents(bytes: &[u8], frame: Frame) -> Result<Layout, ReadError>
     let classes = read_classes(bytes, frame)?;
     let slots = read_slots(bytes, frame, classes.count)?;
     let code = table(frame.code, frame.end, 3, 1024).ok_or(ReadError::Code(0))?;
-    let layout = Layout { depth, classes, slots, code };
+    let layout = Layout {
+        depth,
+        classes,
+        slots,
+        code,
+    };
     match first_bad_instruction(bytes, layout) {
         Some(instruction) => Err(ReadError::Code(instruction)),
         None => Ok(layout),
@@ -43,8 +48,8 @@ fn layout(bytes: &[u8]) -> Result<Layout, ReadError>
 
 /// Reads the unit that bytes hold into the caller's place. Where they hold none, the place stays as it was.
 pub fn read<'a>(bytes: &'a [u8], into: &mut Unit<'a>) -> Result<(), ReadError>
-    ensures outcome { λ r. ⌜ elim r [ Ok _ ↦ (reading (now (bytes .entry)) ≡ Ok (now (into .exit) .layout)) × (now (into .exit) .bytes ≡ bytes .entry) | Err e ↦ (reading (now (bytes .entry)) ≡ Err e) × (now (into .exit) ≡ now (into .entry)) ] ⌝ }
-    ensures means { λ r. ⌜ elim r [ Ok _ ↦ IsUnit (now (bytes .entry)) (partsOf (now (into .exit))) | Err e ↦ FirstWrong (now (bytes .entry)) e × NoUnit (now (bytes .entry)) ] ⌝ }
+    ensures outcome { λ r. ⌜ Outcome (bytes .entry) (now (into .entry)) (now (into .exit)) r ⌝ }
+    ensures means { λ r. ⌜ Means (now (bytes .entry)) (partsOf (now (into .exit))) r ⌝ }
 {
     are_bytes(bytes);
     let layout = layout(bytes)?;

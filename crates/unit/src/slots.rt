@@ -18,7 +18,11 @@ fn slot_reads(bytes: &[u8], classes: usize, slots: Span, i: usize) -> bool
     ensures { λ r. ⌜ r ≡ slotReads (now (bytes .entry)) classes slots i ⌝ }
 {
     let code = word(bytes, slots.start + 2 * i);
-    if i == 0 { (code as usize) < classes } else { storable(classes, code) }
+    if i == 0 {
+        (code as usize) < classes
+    } else {
+        storable(classes, code)
+    }
 }
 
 /// The first slot that breaks its rule.

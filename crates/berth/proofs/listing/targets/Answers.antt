@@ -16,7 +16,7 @@ loop-at-again c =
     let n = c .loop-at .at in
     let l : n < length (p .code) = omega (arith, c .loop-at-test .taken, c .code-len-at-end .ensures) in
     elim (c .match-instruction .came) [
-      in-Some w ↦ marked-more p n (c .loop-at .marks) (w .mark .last .marks) (c .match-instruction .marks) (w .in-Some .instruction) l
+      | in-Some w ↦ marked-more p n (c .loop-at .marks) (w .mark .last .marks) (c .match-instruction .marks) (w .in-Some .instruction) l
           (w .in-Some .ensures tt) (w .marks-is) (w .mark .ensures) (w .mark .array-long) (c .loop-at .inv)
       | in-rest w ↦ absurd (not-none n (length (p .code)) (instructionOf p n) l (w .in-rest .ensures tt))
     ]

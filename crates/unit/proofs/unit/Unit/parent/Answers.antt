@@ -8,7 +8,7 @@ pub returns-in-Break-at : need.returns-in-Break-at
 returns-in-Break-at c =
     record {
       value = c .from-residual .ensures ∙ within-none _ _ _ (c .in-Break-at .ensures tt);
-      lower = parents-lower (c .args .self .now .bytes .now) (c .args .self .now .layout) (kept-bounds (c .args .self .now .bytes .now) (c .args .self .now .layout) (c .args .self .now .reads))
+      lower = parents-lower (c .args .self .now .bytes .now) (c .args .self .now .layout) (kept-bounds (c .args .self .now .bytes .now) (c .args .self .now .layout) (c .args .self .now .reads));
     }
 
 pub returns : need.returns
@@ -16,5 +16,5 @@ returns c =
     let e = c .in-Continue-at .ensures tt in
     record {
       value = within-some _ _ _ _ (e .0) (c .word .ensures ∙ sym (ap (λ (x : ClassParts). x .parent) (e .2)));
-      lower = parents-lower (c .args .self .now .bytes .now) (c .args .self .now .layout) (kept-bounds (c .args .self .now .bytes .now) (c .args .self .now .layout) (c .args .self .now .reads))
+      lower = parents-lower (c .args .self .now .bytes .now) (c .args .self .now .layout) (kept-bounds (c .args .self .now .bytes .now) (c .args .self .now .layout) (c .args .self .now .reads));
     }
