@@ -3,7 +3,6 @@ ghost use Prim.Native.Nat.{ℕ, _<_};
 ghost use lib.ListN.{length};
 ghost use Rattle.format.specs.Parts.{within, parentOf, fieldCount, fieldOf, slotOf, instructionOf};
 ghost use Rattle.unit.specs.Model.{partsOf, fieldIn};
-use crate::bytes::word;
 use crate::unit::Unit;
 use kinds::kind::Kind;
 use opcodes::opcode::Instruction;
@@ -37,7 +36,7 @@ impl<'a> Unit<'a> {
         ensures lower { λ r. ⌜ ((c : ℕ) → 0 < c → c < length (partsOf (now (self .entry)) .classes) → parentOf (partsOf (now (self .entry))) c < c) ⌝ }
     {
         let at = self.class_place(class)?;
-        Some(word(self.bytes, at))
+        Some(self.word(at))
     }
 
     /// How many fields a class has, its parent's among them: at most eight.
@@ -56,7 +55,7 @@ impl<'a> Unit<'a> {
         if field >= self.bytes[at + 2] {
             return None;
         }
-        Some(Kind::from_code(word(self.bytes, at + 3 + 2 * field as usize)))
+        Some(Kind::from_code(self.word(at + 3 + 2 * field as usize)))
     }
 
     /// How many slots there are, from 1 to 32.
@@ -71,7 +70,7 @@ impl<'a> Unit<'a> {
         ensures { λ r. ⌜ r ≡ within slot (length (partsOf (now (self .entry)) .slots)) (slotOf (partsOf (now (self .entry))) slot) ⌝ }
     {
         let at = self.slot_place(slot)?;
-        Some(Kind::from_code(word(self.bytes, at)))
+        Some(Kind::from_code(self.word(at)))
     }
 
     /// How many instructions there are, from 1 to 1,024.
@@ -89,7 +88,7 @@ impl<'a> Unit<'a> {
         let opcode = Opcode::from_byte(self.bytes[place])?;
         Some(Instruction {
             opcode,
-            operand: word(self.bytes, place + 1),
+            operand: self.word(place + 1),
         })
     }
 }

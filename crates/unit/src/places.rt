@@ -1,7 +1,19 @@
+ghost use mathlib.Core.Path.{_≡_};
+ghost use Prim.Native.Nat.{_+_, _≤_};
+ghost use lib.ListN.{length};
+ghost use Rattle.format.specs.Bytes.{wordAt};
 ghost use Rattle.unit.specs.Places.{ClassPlace, SlotPlace, InstructionPlace};
 use crate::unit::Unit;
 
 impl<'a> Unit<'a> {
+    /// The two-byte number at a place.
+    pub(crate) fn word(&self, at: usize) -> u16
+        requires { ⌜ at + 2 ≤ length (now (now self .bytes)) ⌝ }
+        ensures { λ r. ⌜ r ≡ wordAt (now (now (self .entry) .bytes)) at ⌝ }
+    {
+        u16::from_be_bytes([self.bytes[at], self.bytes[at + 1]])
+    }
+
     /// Where the record of a class starts.
     pub(crate) fn class_place(&self, class: u16) -> Option<usize>
         ensures { λ r. ⌜ ClassPlace (now (self .entry)) class r ⌝ }

@@ -6,12 +6,12 @@ use Rattle.unit.proofs.read.read.Needs as need
 pub returns-in-Break-layout : need.returns-in-Break-layout
 returns-in-Break-layout c =
     let p = err-from-errBy (c .from-residual .result) (c .from-residual .ensures .1) in
-    let e = sym (c .layout .ensures) ∙ c .in-Break-layout .was tt in
+    let e = sym (c .layout .ensures .outcome) ∙ c .in-Break-layout .was tt in
     rw (p .1, p .2)
-    (record { outcome = (e, refl); means = refused-means (c .args .bytes .now) (c .in-Break-layout .field-0 .0) (c .are-bytes .ensures) e })
+    (record { outcome = (e, refl); means = refused-means (c .args .bytes .now) (c .in-Break-layout .field-0 .0) (c .layout .ensures .bytes) e })
 
 pub returns : need.returns
 returns c =
     let h = c .in-Continue-layout .was tt in
-    let e = sym (c .layout .ensures) ∙ h in
-    record { outcome = (e, refl); means = read-is-unit (c .args .bytes .now) (c .in-Continue-layout .layout) (c .are-bytes .ensures) e }
+    let e = sym (c .layout .ensures .outcome) ∙ h in
+    record { outcome = (e, refl); means = read-is-unit (c .args .bytes .now) (c .in-Continue-layout .layout) (c .layout .ensures .bytes) e }

@@ -3,7 +3,7 @@ use borrow.Author.Count.{below-more}
 use native.Mathlib.Omega.{arith}
 use Rattle.format.specs.Tests.{classReads}
 use Rattle.format.proofs.Ranges.{first-none, first-some}
-use Rattle.unit.proofs.classes.first_bad_class.Needs as need
+use Rattle.reader.proofs.classes.first_bad_class.Needs as need
 
 pub returns-then-not-class-reads : need.returns-then-not-class-reads
 returns-then-not-class-reads c =

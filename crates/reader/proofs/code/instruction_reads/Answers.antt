@@ -9,7 +9,7 @@ use Rattle.opcodes.specs.Table.{Line, lineAt}
 use Rattle.opcodes.proofs.TableRules.{line-at}
 use Rattle.format.specs.declared.layout.Layout.{Layout}
 use Rattle.format.specs.Tests.{namesTest}
-use Rattle.unit.proofs.code.instruction_reads.Needs as need
+use Rattle.reader.proofs.code.instruction_reads.Needs as need
 
 at-number : (bs : List ℕ) (l : Layout) (b n w : ℕ) (s : Sort) → b < 15 → s ≡ lineAt b .sort → w ≡ n → namesTest bs l s w ≡ (ltb b 15 && namesTest bs l (lineAt b .sort) n)
 at-number bs l b n w s h e f = let t : ltb b 15 ≡ true = lt-ltb b 15 h in rw (t, e, f)

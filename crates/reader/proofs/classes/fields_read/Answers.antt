@@ -4,7 +4,7 @@ use native.Mathlib.Omega.{arith}
 use Rattle.std.proofs.shelf.Tests.{not-true}
 use Rattle.format.specs.Tests.{fieldReads}
 use Rattle.format.proofs.Ranges.{up-to-all, up-to-fails}
-use Rattle.unit.proofs.classes.fields_read.Needs as need
+use Rattle.reader.proofs.classes.fields_read.Needs as need
 
 pub returns-then-not-field-reads : need.returns-then-not-field-reads
 returns-then-not-field-reads c =

@@ -5,7 +5,7 @@ use Rattle.std.proofs.shelf.Tests.{and-from, and-right, le-leb, ne-eqb}
 use Rattle.format.specs.Bytes.{upTo}
 use Rattle.format.specs.Tests.{codeAt, countAt}
 use Rattle.format.proofs.Ranges.{up-to-all, up-to-fails}
-use Rattle.unit.proofs.classes.extends.Needs as need
+use Rattle.reader.proofs.classes.extends.Needs as need
 
 pub returns-then-word : need.returns-then-word
 returns-then-word c =

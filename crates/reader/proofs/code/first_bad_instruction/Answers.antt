@@ -3,7 +3,7 @@ use borrow.Author.Count.{below-more}
 use native.Mathlib.Omega.{arith}
 use Rattle.format.specs.Tests.{instructionReads}
 use Rattle.format.proofs.Ranges.{first-none, first-some}
-use Rattle.unit.proofs.code.first_bad_instruction.Needs as need
+use Rattle.reader.proofs.code.first_bad_instruction.Needs as need
 
 pub returns-then-not-instruction-reads : need.returns-then-not-instruction-reads
 returns-then-not-instruction-reads c =

@@ -3,7 +3,7 @@ use borrow.Author.Count.{below-more}
 use native.Mathlib.Omega.{arith}
 use Rattle.format.specs.Tests.{slotReads}
 use Rattle.format.proofs.Ranges.{first-none, first-some}
-use Rattle.unit.proofs.slots.first_bad_slot.Needs as need
+use Rattle.reader.proofs.slots.first_bad_slot.Needs as need
 
 pub returns-then-not-slot-reads : need.returns-then-not-slot-reads
 returns-then-not-slot-reads c =
