@@ -1,1 +1,2 @@
+mod Commands
 mod Marks

@@ -8,6 +8,7 @@ mod operand;
 mod show;
 
 use command::Command;
+use failure::Failed;
 use failure::Failure;
 use failure::FailureFromOutput;
 use show::Shown;
@@ -17,6 +18,19 @@ use std::fs;
 use std::io;
 use unit::read::read;
 use unit::unit::Unit;
+
+/// The words of the command line, without the program's own name.
+fn words(rt: &LibcRuntime) -> io::Result<Vec<String>> {
+    Ok(env::args(rt)?.skip(1).collect(rt.alloc())?)
+}
+
+/// The same, or why they cannot be had.
+fn arguments<'a>(rt: &LibcRuntime) -> Result<Vec<String>, Failure<'a>> {
+    match words(rt) {
+        Ok(words) => Ok(words),
+        Err(error) => Err(Failure::Arguments(error)),
+    }
+}
 
 /// Prints a unit.
 fn print_unit(rt: &LibcRuntime, unit: Unit) -> io::Result<()> {
@@ -45,10 +59,13 @@ fn run<'a>(rt: &LibcRuntime, words: &'a [String]) -> Result<(), Failure<'a>> {
     }
 }
 
-fn main(rt: LibcRuntime) -> io::Result<()> {
-    let words: Vec<String> = env::args(&rt)?.skip(1).collect(rt.alloc())?;
+fn main(rt: LibcRuntime) -> Result<(), Failed> {
+    let words = match arguments(&rt) {
+        Ok(words) => words,
+        Err(failure) => return Err(failure.tell(&rt)),
+    };
     match run(&rt, words.as_slice()) {
         Ok(()) => Ok(()),
-        Err(failure) => failure.end(&rt),
+        Err(failure) => Err(failure.tell(&rt)),
     }
 }

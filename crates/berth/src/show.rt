@@ -35,7 +35,7 @@ fn heading<W: fmt::Write>(unit: &Unit, f: &mut fmt::Formatter<W>) -> fmt::Result
 
 /// A line for each class.
 fn classes<W: fmt::Write>(unit: &Unit, f: &mut fmt::Formatter<W>) -> fmt::Result {
-    for class in 0..256 {
+    for class in 0..unit.class_count() as u16 {
         if let Some(parent) = unit.parent(class) {
             line_of_class(unit, class, parent, f)?;
         }

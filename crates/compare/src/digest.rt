@@ -45,15 +45,15 @@ impl Digest {
     pub fn of_parts(unit: &Unit) -> u32 {
         let mut digest = Digest(0);
         digest.add(u32::from(unit.depth()));
-        digest.add(count(unit.class_count()));
-        for class in 0..256 {
+        digest.add(unit.class_count() as u32);
+        for class in 0..unit.class_count() as u16 {
             digest.add_class(unit, class);
         }
-        digest.add(count(unit.slot_count()));
+        digest.add(unit.slot_count() as u32);
         for slot in 0..unit.slot_count() {
             digest.add_kind(unit.slot(slot));
         }
-        digest.add(count(unit.code_len()));
+        digest.add(unit.code_len() as u32);
         for at in 0..unit.code_len() {
             digest.add_instruction(unit, at);
         }
@@ -79,7 +79,7 @@ const KINDS: u16 = 17;
 
 /// The kinds that are compared, by their place in the list.
 fn listed(unit: &Unit, place: u16) -> Option<Kind> {
-    let classes = (unit.class_count() & 0xFFFF) as u16;
+    let classes = unit.class_count() as u16;
     let first = classes.min(12);
     match place {
         0 => Some(Kind::Int),
@@ -90,7 +90,7 @@ fn listed(unit: &Unit, place: u16) -> Option<Kind> {
             if class < first {
                 Some(Kind::Class(class))
             } else if class == first {
-                Some(Kind::Class(classes.saturating_sub(1)))
+                Some(Kind::Class(classes - 1))
             } else if class == first + 1 {
                 Some(Kind::Class(classes))
             } else {
@@ -98,9 +98,4 @@ fn listed(unit: &Unit, place: u16) -> Option<Kind> {
             }
         }
     }
-}
-
-/// A count as a number of 32 bits.
-fn count(n: usize) -> u32 {
-    (n & 0xFFFF_FFFF) as u32
 }

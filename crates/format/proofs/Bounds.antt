@@ -12,9 +12,10 @@ use Rattle.format.specs.declared.layout.Layout.{Layout}
 use Rattle.format.specs.declared.layout.Span.{Span}
 use Rattle.format.specs.Bytes.{byteAt, wordAt, upTo}
 use Rattle.format.specs.Tests.{countAt, fieldReads, descends, classReads, instructionReads}
-use Rattle.format.specs.Reading.{framedAt, fieldEnd, placesOf, Framed, headReads, reading, spread, layoutNumbers}
+use Rattle.format.specs.Reading.{framedAt, fieldEnd, placesOf, Framed, sized, headReads, reading, spread, layoutNumbers}
 use Rattle.format.specs.Stages.{layoutIn, FramePasses, Passes}
 use Rattle.format.proofs.Passing.{kept-passes}
+use Rattle.format.proofs.Sizes.{whole-records, some-records}
 
 -- a field that stands whole ends within the bytes
 pub framed-within : (bs : List ℕ) (tag at : ℕ) → framedAt bs tag at ≡ true → fieldEnd bs at ≤ length bs
@@ -29,10 +30,25 @@ places-framed bs p =
 within : (w at next n : ℕ) → at + 3 ≤ next → next ≤ n → at + 3 + w * ((next - (at + 3)) / w) ≤ n
 within w at next n h k = omega (arith, mul-div-le (next - (at + 3)) w)
 
+-- a table whose size is right has some records, and no more than it may
+table-some : (w most n : ℕ) → sized w most n ≡ true → 0 < n / w
+table-some w most n h =
+    let a = and-parts (ltb 0 n) (eqb (n % w) 0 && leb (n / w) most) h in
+    some-records w n (ltb-true 0 n (a .0)) (whole-records w n (eqb-true _ _ (and-parts (eqb (n % w) 0) (leb (n / w) most) (a .1) .0)))
+
+table-few : (w most n : ℕ) → sized w most n ≡ true → n / w ≤ most
+table-few w most n h = leb-true _ _ (and-parts (eqb (n % w) 0) _ (and-parts (ltb 0 n) _ h .1) .1)
+
 pub record Bounds (bs : List ℕ) (l : Layout) : Type 0 where
   pub classes-within : l .classes .start + 19 * l .classes .count ≤ length bs
   pub slots-within : l .slots .start + 2 * l .slots .count ≤ length bs
   pub code-within : l .code .start + 3 * l .code .count ≤ length bs
+  pub some-classes : 0 < l .classes .count
+  pub few-classes : l .classes .count ≤ 256
+  pub some-slots : 0 < l .slots .count
+  pub few-slots : l .slots .count ≤ 32
+  pub some-code : 0 < l .code .count
+  pub few-code : l .code .count ≤ 1024
   pub shallow : l .depth ≤ 16
   pub few-fields : (c : ℕ) → c < l .classes .count → countAt bs (l .classes .start + 19 * c) ≤ 8
   pub lower-parent : (c : ℕ) → 0 < c → c < l .classes .count → wordAt bs (l .classes .start + 19 * c) < c
@@ -57,6 +73,12 @@ passes-bounds bs p =
       classes-within = within 19 _ _ _ (f .classes) (omega arith);
       slots-within = within 2 _ _ _ (f .slots) (omega arith);
       code-within = within 3 _ _ _ (f .code) (omega arith);
+      some-classes = table-some 19 256 _ (p .classes .are-sized);
+      few-classes = table-few 19 256 _ (p .classes .are-sized);
+      some-slots = table-some 2 32 _ (p .slots .are-sized);
+      few-slots = table-few 2 32 _ (p .slots .are-sized);
+      some-code = table-some 3 1024 _ (p .code .are-sized);
+      few-code = table-few 3 1024 _ (p .code .are-sized);
       shallow = leb-true _ _ (and-parts (eqb (byteAt bs 3) 1) _ (and-parts (eqb (placesOf bs .classes) 5) _ (p .head) .1) .1);
       few-fields = λ c l. class-few bs (layoutIn bs .classes) c (p .classes .each c l);
       lower-parent = λ c z l. class-lower bs (layoutIn bs .classes) c z (p .classes .each c l);

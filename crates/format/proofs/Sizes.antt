@@ -17,10 +17,10 @@ use Rattle.format.specs.Right.{HeadRight, Sized}
 use Rattle.format.proofs.Slices.{slice-cons, slice-at, length-slice}
 use Rattle.format.proofs.Framing.{framed-parts}
 
-whole-records : (w n : ℕ) → n % w ≡ 0 → n ≡ w * (n / w)
+pub whole-records : (w n : ℕ) → n % w ≡ 0 → n ≡ w * (n / w)
 whole-records w n h = omega (arith, div-add-mod n w)
 
-some-records : (w n : ℕ) → 0 < n → n ≡ w * (n / w) → 0 < n / w
+pub some-records : (w n : ℕ) → 0 < n → n ≡ w * (n / w) → 0 < n / w
 some-records w n p h =
     ⊎-elim (λ (l : 0 < n / w). l) (λ (l : n / w ≤ 0). let z : n / w ≡ 0 = omega arith in absurd (omega (arith, ap (λ k. w * k) z, mul-zero w)))
     (cases-lt 0 (n / w))

@@ -1,5 +1,5 @@
 ghost use mathlib.Core.Path.{_≡_};
-ghost use Prim.Native.Nat.{ℕ, _<_};
+ghost use Prim.Native.Nat.{ℕ, _<_, _≤_};
 ghost use lib.ListN.{length};
 ghost use Rattle.format.specs.Parts.{within, parentOf, fieldCount, fieldOf, slotOf, instructionOf};
 ghost use Rattle.unit.specs.Model.{partsOf, fieldIn};
@@ -23,9 +23,10 @@ impl<'a> Unit<'a> {
         self.layout.depth
     }
 
-    /// How many classes there are, at least one.
+    /// How many classes there are, from 1 to 256.
     pub fn class_count(&self) -> usize
-        ensures { λ r. ⌜ r ≡ length (partsOf (now (self .entry)) .classes) ⌝ }
+        ensures value { λ r. ⌜ r ≡ length (partsOf (now (self .entry)) .classes) ⌝ }
+        ensures bound { λ r. ⌜ 0 < r ⌝ ∗ ⌜ r ≤ 256 ⌝ }
     {
         self.layout.classes.count
     }
@@ -60,7 +61,8 @@ impl<'a> Unit<'a> {
 
     /// How many slots there are, from 1 to 32.
     pub fn slot_count(&self) -> usize
-        ensures { λ r. ⌜ r ≡ length (partsOf (now (self .entry)) .slots) ⌝ }
+        ensures value { λ r. ⌜ r ≡ length (partsOf (now (self .entry)) .slots) ⌝ }
+        ensures bound { λ r. ⌜ 0 < r ⌝ ∗ ⌜ r ≤ 32 ⌝ }
     {
         self.layout.slots.count
     }
@@ -75,7 +77,8 @@ impl<'a> Unit<'a> {
 
     /// How many instructions there are, from 1 to 1,024.
     pub fn code_len(&self) -> usize
-        ensures { λ r. ⌜ r ≡ length (partsOf (now (self .entry)) .code) ⌝ }
+        ensures value { λ r. ⌜ r ≡ length (partsOf (now (self .entry)) .code) ⌝ }
+        ensures bound { λ r. ⌜ 0 < r ⌝ ∗ ⌜ r ≤ 1024 ⌝ }
     {
         self.layout.code.count
     }

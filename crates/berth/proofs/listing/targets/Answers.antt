@@ -14,7 +14,7 @@ pub loop-at-again : need.loop-at-again
 loop-at-again c =
     let p = partsOf (c .args .unit .now) in
     let n = c .loop-at .at in
-    let l : n < length (p .code) = omega (arith, c .loop-at-test .taken, c .code-len-at-end .ensures) in
+    let l : n < length (p .code) = omega (arith, c .loop-at-test .taken, c .code-len-at-end .ensures .value) in
     elim (c .match-instruction .came) [
       | in-Some w ↦ marked-more p n (c .loop-at .marks) (w .mark .last .marks) (c .match-instruction .marks) (w .in-Some .instruction) l
           (w .in-Some .ensures tt) (w .marks-is) (w .mark .ensures) (w .mark .array-long) (c .loop-at .inv)

@@ -1,0 +1,5 @@
+pub mod Values
+pub mod Conforming
+pub mod Configuration
+pub mod Step
+pub mod Runs
