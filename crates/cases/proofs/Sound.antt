@@ -1,11 +1,12 @@
 -- A claim whose test passes holds.
-use Prim.Native.Nat.{ℕ, zero, suc, _+_, _<_, _≤_}
+use Prim.Native.Nat.{ℕ, zero, suc, _+_, _-_, _<_, _≤_}
 use mathlib.Core.Path.{_≡_, refl, sym, ap, _∙_, subst}
 use mathlib.Core.Bool.{Bool, true, false, cond, _&&_, _||_}
 use mathlib.Core.List.{List, [], _∷_}
 use mathlib.Core.Logic.{_⊎_, inl, inr, ⊎-elim}
 use native.Mathlib.Omega.{arith}
 use lib.Dec.{eqb, ltb}
+use lib.IntN.{ℤ, pos, negsuc}
 use lib.ListN.{length}
 use Rattle.std.specs.Results.{isOk}
 use Rattle.std.specs.declared.option.Option.{Option}
@@ -27,8 +28,10 @@ use Rattle.tree.specs.Order.{Below, same, unusable, null, Least}
 use Rattle.tree.proofs.Parents.{Lower}
 use Rattle.tree.proofs.Plain.{below-equal, least-above, least-swap, int-least, mixed-least, null-least, unusable-least}
 use Rattle.tree.proofs.Joins.{climb-least, lone-least}
-use Rattle.cases.specs.Claims.{Claim, reads, refuses, least, Holds, Every}
-use Rattle.cases.specs.Computed.{climb, leastOf, sameKind, isKind, treeTest, sameRefusal, refusedWith, test, testAll}
+use Rattle.machine.specs.Configuration.{Configuration, Outcome, goes, returned, stopped, fault}
+use Rattle.machine.specs.Runs.{start, steps}
+use Rattle.cases.specs.Claims.{Claim, reads, refuses, least, runs, Holds, Every}
+use Rattle.cases.specs.Computed.{climb, leastOf, sameKind, isKind, treeTest, sameRefusal, refusedWith, sameNumber, endsAlike, goesOn, test, testAll}
 
 tree-lower : (p : Parts) → treeTest p ≡ true → Lower p
 tree-lower p t c z l =
@@ -129,10 +132,40 @@ least-holds p a b k t =
     step None h u low = absurd (false≢true u)
     step (Some j) h u low = computed-least p low a b k (h ∙ ap Some (same-kind j k u))
 
+same-number : (a b : ℤ) → sameNumber a b ≡ true → a ≡ b
+same-number (pos a) (pos b) t = ap pos (eqb-true a b t)
+same-number (pos a) (negsuc b) t = absurd (false≢true t)
+same-number (negsuc a) (pos b) t = absurd (false≢true t)
+same-number (negsuc a) (negsuc b) t = ap negsuc (eqb-true a b t)
+
+ended-alike : (x o : Outcome) → endsAlike x o ≡ true → x ≡ o
+ended-alike (goes c) o t = absurd (false≢true t)
+ended-alike (returned a) (goes d) t = absurd (false≢true t)
+ended-alike (returned a) (returned b) t = ap returned (same-number a b t)
+ended-alike (returned a) (stopped b) t = absurd (false≢true t)
+ended-alike (returned a) (fault b) t = absurd (false≢true t)
+ended-alike (stopped a) (goes d) t = absurd (false≢true t)
+ended-alike (stopped a) (returned b) t = absurd (false≢true t)
+ended-alike (stopped a) (stopped b) t = ap stopped (eqb-true a b t)
+ended-alike (stopped a) (fault b) t = absurd (false≢true t)
+ended-alike (fault a) (goes d) t = absurd (false≢true t)
+ended-alike (fault a) (returned b) t = absurd (false≢true t)
+ended-alike (fault a) (stopped b) t = absurd (false≢true t)
+ended-alike (fault a) (fault b) t = ap fault (eqb-true a b t)
+
+still-going : (x : Outcome) → goesOn x ≡ true → (c : Configuration) × (x ≡ goes c)
+still-going (goes c) t = (c, refl)
+still-going (returned a) t = absurd (false≢true t)
+still-going (stopped a) t = absurd (false≢true t)
+still-going (fault a) t = absurd (false≢true t)
+
 holds : (c : Claim) → test c ≡ true → Holds c
 holds (reads p n) t = let s = and-parts (eqb (length (encode p)) n) (isOk (reading (encode p))) t in (eqb-true _ _ (s .0), s .1)
 holds (refuses bs r) t = refused bs r t
 holds (least p a b k) t = least-holds p a b k t
+holds (runs p v n o) t =
+    let s = and-parts (goesOn (steps p (n - 1) (start p v))) (endsAlike (steps p n (start p v)) o) t in
+    (still-going (steps p (n - 1) (start p v)) (s .0), ended-alike (steps p n (start p v)) o (s .1))
 
 pub every-holds : (cs : List Claim) → testAll cs ≡ true → Every cs
 every-holds [] t = tt

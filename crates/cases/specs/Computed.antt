@@ -1,8 +1,9 @@
 -- Each claim as a test that computes.
-use Prim.Native.Nat.{ℕ, zero, suc, _+_}
+use Prim.Native.Nat.{ℕ, zero, suc, _+_, _-_}
 use mathlib.Core.Bool.{Bool, true, false, cond, _&&_, _||_}
 use mathlib.Core.List.{List, [], _∷_}
 use lib.Dec.{eqb, ltb}
+use lib.IntN.{ℤ, pos, negsuc}
 use lib.ListN.{length}
 use Rattle.std.specs.Results.{isOk}
 use Rattle.std.specs.declared.option.Option.{Option}
@@ -19,7 +20,9 @@ use Rattle.format.specs.Parts.{Parts, parentOf}
 use Rattle.format.specs.Encoding.{encode}
 use Rattle.format.specs.Reading.{reading}
 use Rattle.format.specs.Refusals.{readRefusal}
-use Rattle.cases.specs.Claims.{Claim, reads, refuses, least}
+use Rattle.machine.specs.Configuration.{Outcome, goes, returned, stopped, fault}
+use Rattle.machine.specs.Runs.{start, steps}
+use Rattle.cases.specs.Claims.{Claim, reads, refuses, least, runs}
 
 -- the least kind above two classes: climb from the larger number, so many times at most
 abbrev pub climb : Parts → ℕ → ℕ → ℕ → Option Kind
@@ -80,10 +83,39 @@ abbrev pub refusedWith : Result Layout ReadError → Refusal → Bool
 refusedWith (Ok l) r = false
 refusedWith (Err e) r = sameRefusal (readRefusal e) r
 
+abbrev pub sameNumber : ℤ → ℤ → Bool
+sameNumber (pos a) (pos b) = eqb a b
+sameNumber (pos a) (negsuc b) = false
+sameNumber (negsuc a) (pos b) = false
+sameNumber (negsuc a) (negsuc b) = eqb a b
+
+-- whether two runs ended alike
+abbrev pub endsAlike : Outcome → Outcome → Bool
+endsAlike (goes c) o = false
+endsAlike (returned a) (goes d) = false
+endsAlike (returned a) (returned b) = sameNumber a b
+endsAlike (returned a) (stopped b) = false
+endsAlike (returned a) (fault b) = false
+endsAlike (stopped a) (goes d) = false
+endsAlike (stopped a) (returned b) = false
+endsAlike (stopped a) (stopped b) = eqb a b
+endsAlike (stopped a) (fault b) = false
+endsAlike (fault a) (goes d) = false
+endsAlike (fault a) (returned b) = false
+endsAlike (fault a) (stopped b) = false
+endsAlike (fault a) (fault b) = eqb a b
+
+abbrev pub goesOn : Outcome → Bool
+goesOn (goes c) = true
+goesOn (returned a) = false
+goesOn (stopped a) = false
+goesOn (fault a) = false
+
 abbrev pub test : Claim → Bool
 test (reads p n) = eqb (length (encode p)) n && isOk (reading (encode p))
 test (refuses bs r) = refusedWith (reading bs) r
 test (least p a b k) = treeTest p && isKind (leastOf p a b) k
+test (runs p v n o) = goesOn (steps p (n - 1) (start p v)) && endsAlike (steps p n (start p v)) o
 
 abbrev pub testAll : List Claim → Bool
 testAll [] = true

@@ -5,4 +5,5 @@ ghost use Rattle.cases.specs.Examples.{examples};
 /// Every worked example holds.
 pub fn examples_hold()
     ensures { λ _. ⌜ Every examples ⌝ }
-{}
+{
+}

@@ -10,7 +10,7 @@ use crate::opcode::Sort;
 use crate::opcode::Takes;
 use crate::opcode::Ways;
 
-const ROWS: [Row; 15] = [
+static ROWS: [Row; 15] = [
     Row {
         opcode: Opcode::Push,
         name: "push",
