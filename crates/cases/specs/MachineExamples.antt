@@ -25,7 +25,7 @@ ruleOf d is =
       depth = d;
       classes = exampleRule .classes ++ (classOn 0 (Class 2 ∷ []) ∷ []);
       slots = exampleRule .slots;
-      code = is
+      code = is;
     }
 
 abbrev pub runsOn : ℕ → List Instruction → ℕ → Outcome → Claim

@@ -5,5 +5,4 @@ ghost use Rattle.cases.specs.Examples.{examples};
 /// Every worked example holds.
 pub fn examples_hold()
     ensures { λ _. ⌜ Every examples ⌝ }
-{
-}
+{}

@@ -18,3 +18,4 @@ pub mod Decoded
 pub mod Complete
 pub mod Refused
 pub mod Meanings
+pub mod Inherited

@@ -42,6 +42,11 @@ classReads bs s i =
     leb (countAt bs (s .start + 19 * i)) 8
     && (upTo 8 (fieldReads bs (s .count) (s .start + 19 * i)) && descends bs (s .start) i)
 
+-- the same in one look at each field: one of the first n, which the parent at `up` has, equals the parent's, any other is as it
+-- should be
+abbrev pub fieldAgrees : List ℕ → ℕ → ℕ → ℕ → ℕ → ℕ → Bool
+fieldAgrees bs classes at up n k = cond (ltb k n) (eqb (codeAt bs at k) (codeAt bs up k)) (fieldReads bs classes at k)
+
 -- a slot is int or a class, slot 0 a class
 abbrev pub slotReads : List ℕ → ℕ → Span → ℕ → Bool
 slotReads bs classes s i =

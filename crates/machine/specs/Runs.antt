@@ -45,7 +45,7 @@ start p v =
       operands = [];
       slots = Some (ref 1) ∷ replicate (length (p .slots) - 1) None;
       objects = vesselObject p v ∷ [];
-      row = None
+      row = None;
     }
 
 -- one more step, where the run goes on

@@ -1,9 +1,10 @@
 ghost use mathlib.Core.Path.{_≡_};
+ghost use mathlib.Core.Bool.{true};
 ghost use Prim.Native.Nat.{ℕ, _+_, _*_, _<_, _≤_};
 ghost use lib.ListN.{length};
 ghost use Rattle.std.specs.declared.result.Result.the-variants.{Ok, Err};
 ghost use Rattle.format.specs.Bytes.{firstFailing, upTo};
-ghost use Rattle.format.specs.Tests.{countAt, storable as storableTest, fieldReads, extends as extendsTest, descends as descendsTest, classReads};
+ghost use Rattle.format.specs.Tests.{storable as storableTest, fieldReads, fieldAgrees, classReads};
 ghost use Rattle.format.specs.Reading.{Framed, readClasses, span as spanOf};
 use crate::bytes::word;
 use crate::framing::table;
@@ -35,56 +36,55 @@ fn field_reads(bytes: &[u8], classes: usize, at: usize, k: usize) -> bool
     }
 }
 
-/// Whether all eight field kinds of the record at a place are as they should be.
-fn fields_read(bytes: &[u8], classes: usize, at: usize) -> bool
-    requires { ⌜ at + 19 ≤ length (now bytes) ⌝ }
-    ensures { λ r. ⌜ r ≡ upTo 8 (fieldReads (now (bytes .entry)) classes at) ⌝ }
+/// Whether field k of the record at a place equals that of the record at `up`, where it is one of the first n, and else is as it
+/// should be.
+fn field_agrees(bytes: &[u8], classes: usize, at: usize, up: usize, n: usize, k: usize) -> bool
+    requires { ⌜ at + 19 ≤ length (now bytes) ⌝ ∗ ⌜ up + 19 ≤ length (now bytes) ⌝ ∗ ⌜ k < 8 ⌝ }
+    ensures { λ r. ⌜ r ≡ fieldAgrees (now (bytes .entry)) classes at up n k ⌝ }
+{
+    if k < n {
+        word(bytes, at + 3 + 2 * k) == word(bytes, up + 3 + 2 * k)
+    } else {
+        field_reads(bytes, classes, at, k)
+    }
+}
+
+/// The same of all eight fields.
+fn fields_agree(bytes: &[u8], classes: usize, at: usize, up: usize, n: usize) -> bool
+    requires { ⌜ at + 19 ≤ length (now bytes) ⌝ ∗ ⌜ up + 19 ≤ length (now bytes) ⌝ }
+    ensures { λ r. ⌜ r ≡ upTo 8 (fieldAgrees (now (bytes .entry)) classes at up n) ⌝ }
 {
     for k in 0..8 {
-        if !field_reads(bytes, classes, at, k) {
+        if !field_agrees(bytes, classes, at, up, n, k) {
             return false;
         }
     }
     true
 }
 
-/// Whether the record at a place begins with the field kinds of the one at `up`.
-fn extends(bytes: &[u8], at: usize, up: usize) -> bool
-    requires { ⌜ at + 19 ≤ length (now bytes) ⌝ ∗ ⌜ up + 19 ≤ length (now bytes) ⌝ ∗ ⌜ countAt (now bytes) at ≤ 8 ⌝ }
-    ensures { λ r. ⌜ r ≡ extendsTest (now (bytes .entry)) at up ⌝ }
-{
-    let inherited = bytes[up + 2] as usize;
-    if inherited > bytes[at + 2] as usize {
-        return false;
-    }
-    for k in 0..inherited {
-        if word(bytes, at + 3 + 2 * k) != word(bytes, up + 3 + 2 * k) {
-            return false;
-        }
-    }
-    true
-}
-
-/// Whether class i is the root with nothing, or has a parent of lower number, which it extends.
-fn descends(bytes: &[u8], start: usize, i: usize) -> bool
-    requires { ⌜ start + 19 * i + 19 ≤ length (now bytes) ⌝ ∗ ⌜ countAt (now bytes) (start + 19 * i) ≤ 8 ⌝ }
-    ensures { λ r. ⌜ r ≡ descendsTest (now (bytes .entry)) start i ⌝ }
-{
-    let at = start + RECORD * i;
-    let parent = word(bytes, at) as usize;
-    if i == 0 {
-        return parent == 0 && bytes[at + 2] == 0;
-    }
-    parent < i && extends(bytes, at, start + RECORD * parent)
-}
-
-/// Whether class i keeps its rule.
+/// Whether class i keeps its rule, where those before it do.
 fn class_reads(bytes: &[u8], classes: Span, i: usize) -> bool
-    requires { ⌜ classes .start + 19 * i + 19 ≤ length (now bytes) ⌝ }
+    requires { ⌜ classes .start + 19 * i + 19 ≤ length (now bytes) ⌝ ∗ ⌜ ((j : ℕ) → j < i → classReads (now bytes) classes j ≡ true) ⌝ }
     ensures { λ r. ⌜ r ≡ classReads (now (bytes .entry)) classes i ⌝ }
 {
     let at = classes.start + RECORD * i;
-    bytes[at + 2] <= 8 && fields_read(bytes, classes.count, at) && descends(bytes, classes.start, i)
+    let parent = word(bytes, at) as usize;
+    let count = bytes[at + 2];
+    if i == 0 {
+        if parent != 0 || count != 0 {
+            return false;
+        }
+        return fields_agree(bytes, classes.count, at, at, 0);
+    }
+    if count > 8 || parent >= i {
+        return false;
+    }
+    let up = classes.start + RECORD * parent;
+    let inherited = bytes[up + 2];
+    if inherited > count {
+        return false;
+    }
+    fields_agree(bytes, classes.count, at, up, inherited as usize)
 }
 
 /// The first class that breaks its rule.

@@ -23,5 +23,5 @@ pub returns-in-rest : need.returns-in-rest
 returns-in-rest c =
     let some : 0 < length (c .args .words .now) = search needs in
     let two : length (c .args .words .now) ≡ 2 → ⊥ =
-        λ e. elim (c .in-rest .came) [ in-rest·by·then-words-lt2 w ↦ search needs | in-rest·by·else-words-lt2·else-words-lt3 w ↦ search needs ] in
+    λ e. elim (c .in-rest .came) [ in-rest·by·then-words-lt2 w ↦ search needs | in-rest·by·else-words-lt2·else-words-lt3 w ↦ search needs ] in
     no-command string-bytes (c .args .words .now) some two
