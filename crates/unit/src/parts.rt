@@ -28,6 +28,7 @@ impl<'a> Unit<'a> {
         ensures value { λ r. ⌜ r ≡ length (partsOf (now (self .entry)) .classes) ⌝ }
         ensures bound { λ r. ⌜ 0 < r ⌝ ∗ ⌜ r ≤ 256 ⌝ }
     {
+        self.tables();
         self.layout.classes.count
     }
 
@@ -36,6 +37,7 @@ impl<'a> Unit<'a> {
         ensures value { λ r. ⌜ r ≡ within class (length (partsOf (now (self .entry)) .classes)) (parentOf (partsOf (now (self .entry))) class) ⌝ }
         ensures lower { λ r. ⌜ ((c : ℕ) → 0 < c → c < length (partsOf (now (self .entry)) .classes) → parentOf (partsOf (now (self .entry))) c < c) ⌝ }
     {
+        self.tables();
         let at = self.class_place(class)?;
         Some(self.word(at))
     }
@@ -64,6 +66,7 @@ impl<'a> Unit<'a> {
         ensures value { λ r. ⌜ r ≡ length (partsOf (now (self .entry)) .slots) ⌝ }
         ensures bound { λ r. ⌜ 0 < r ⌝ ∗ ⌜ r ≤ 32 ⌝ }
     {
+        self.tables();
         self.layout.slots.count
     }
 
@@ -80,6 +83,7 @@ impl<'a> Unit<'a> {
         ensures value { λ r. ⌜ r ≡ length (partsOf (now (self .entry)) .code) ⌝ }
         ensures bound { λ r. ⌜ 0 < r ⌝ ∗ ⌜ r ≤ 1024 ⌝ }
     {
+        self.tables();
         self.layout.code.count
     }
 

@@ -2,7 +2,7 @@ ghost use mathlib.Core.Path.{_≡_};
 ghost use Prim.Native.Nat.{_+_, _≤_};
 ghost use lib.ListN.{length};
 ghost use Rattle.format.specs.Bytes.{wordAt};
-ghost use Rattle.unit.specs.Places.{ClassPlace, SlotPlace, InstructionPlace};
+ghost use Rattle.unit.specs.Places.{ClassPlace, SlotPlace, InstructionPlace, Tables};
 use crate::unit::Unit;
 
 impl<'a> Unit<'a> {
@@ -13,6 +13,11 @@ impl<'a> Unit<'a> {
     {
         u16::from_be_bytes([self.bytes[at], self.bytes[at + 1]])
     }
+
+    /// Does nothing, and tells a proof what the unit's invariant says of its tables.
+    pub(crate) fn tables(&self)
+        ensures { λ _. ⌜ Tables (now (self .entry)) ⌝ }
+    {}
 
     /// Where the record of a class starts.
     pub(crate) fn class_place(&self, class: u16) -> Option<usize>
