@@ -30,6 +30,13 @@ up-to-at f (suc n) k h l =
     (λ (ne : k ≡ n → ⊥). up-to-at f n k (both .1) (omega (arith, ne)))
     (cases-eq k n)
 
+pub up-to-same : (f g : ℕ → Bool) (n : ℕ) → ((k : ℕ) → k < n → f k ≡ g k) → upTo n f ≡ upTo n g
+up-to-same f g zero h = refl
+up-to-same f g (suc n) h =
+    let e : f n ≡ g n = h n (omega arith) in
+    let r : upTo n f ≡ upTo n g = up-to-same f g n (λ k l. h k (omega arith)) in
+    rw (e, r) refl
+
 pub first-none : (f : ℕ → Bool) (i n : ℕ) → ((k : ℕ) → i ≤ k → k < i + n → f k ≡ true) → firstFailing f i n ≡ None
 first-none f i zero h = refl
 first-none f i (suc n) h =

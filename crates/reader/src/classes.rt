@@ -1,10 +1,11 @@
 ghost use mathlib.Core.Path.{_≡_};
-ghost use mathlib.Core.Bool.{true};
+ghost use mathlib.Core.Bool.{true, _||_};
 ghost use Prim.Native.Nat.{ℕ, _+_, _*_, _<_, _≤_};
+ghost use lib.Dec.{eqb, ltb};
 ghost use lib.ListN.{length};
 ghost use Rattle.std.specs.declared.result.Result.the-variants.{Ok, Err};
 ghost use Rattle.format.specs.Bytes.{firstFailing, upTo};
-ghost use Rattle.format.specs.Tests.{storable as storableTest, fieldReads, fieldAgrees, classReads};
+ghost use Rattle.format.specs.Tests.{storable as storableTest, codeAt, fieldReads, fieldAgrees, classReads};
 ghost use Rattle.format.specs.Reading.{Framed, readClasses, span as spanOf};
 use crate::bytes::word;
 use crate::framing::table;
@@ -36,30 +37,41 @@ fn field_reads(bytes: &[u8], classes: usize, at: usize, k: usize) -> bool
     }
 }
 
-/// Whether field k of the record at a place equals that of the record at `up`, where it is one of the first n, and else is as it
-/// should be.
-fn field_agrees(bytes: &[u8], classes: usize, at: usize, up: usize, n: usize, k: usize) -> bool
+/// Whether field k of the records at two places has the same kind. The two bytes are compared as they lie, so that none is turned.
+fn field_same(bytes: &[u8], at: usize, up: usize, k: usize) -> bool
     requires { ⌜ at + 19 ≤ length (now bytes) ⌝ ∗ ⌜ up + 19 ≤ length (now bytes) ⌝ ∗ ⌜ k < 8 ⌝ }
-    ensures { λ r. ⌜ r ≡ fieldAgrees (now (bytes .entry)) classes at up n k ⌝ }
+    ensures { λ r. ⌜ r ≡ eqb (codeAt (now (bytes .entry)) at k) (codeAt (now (bytes .entry)) up k) ⌝ }
 {
-    if k < n {
-        word(bytes, at + 3 + 2 * k) == word(bytes, up + 3 + 2 * k)
-    } else {
-        field_reads(bytes, classes, at, k)
-    }
+    let i = at + 3 + 2 * k;
+    let j = up + 3 + 2 * k;
+    u16::from_le_bytes([bytes[i], bytes[i + 1]]) == u16::from_le_bytes([bytes[j], bytes[j + 1]])
 }
 
-/// The same of all eight fields.
+/// Whether all fields of the record at a place but the first n are as they should be.
+fn rest_reads(bytes: &[u8], classes: usize, at: usize, n: usize) -> bool
+    requires { ⌜ at + 19 ≤ length (now bytes) ⌝ }
+    ensures { λ r. ⌜ r ≡ upTo 8 (λ k. ltb k n || fieldReads (now (bytes .entry)) classes at k) ⌝ }
+{
+    for k in 0..8 {
+        if k >= n && !field_reads(bytes, classes, at, k) {
+            return false;
+        }
+    }
+    true
+}
+
+/// Whether each of the first n fields of the record at a place equals that of the record at `up`, and all others are as they
+/// should be.
 fn fields_agree(bytes: &[u8], classes: usize, at: usize, up: usize, n: usize) -> bool
     requires { ⌜ at + 19 ≤ length (now bytes) ⌝ ∗ ⌜ up + 19 ≤ length (now bytes) ⌝ }
     ensures { λ r. ⌜ r ≡ upTo 8 (fieldAgrees (now (bytes .entry)) classes at up n) ⌝ }
 {
     for k in 0..8 {
-        if !field_agrees(bytes, classes, at, up, n, k) {
+        if k < n && !field_same(bytes, at, up, k) {
             return false;
         }
     }
-    true
+    rest_reads(bytes, classes, at, n)
 }
 
 /// Whether class i keeps its rule, where those before it do.
