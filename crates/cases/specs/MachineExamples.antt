@@ -4,6 +4,7 @@ use Prim.Native.Nat.{ℕ}
 use mathlib.Core.List.{List, [], _∷_, _++_}
 use lib.IntN.{ℤ, pos, negsuc}
 use lib.ListN.{replicate}
+use Rattle.std.specs.Joined.{joined}
 use Rattle.kinds.specs.declared.kind.Kind.{Kind}
 use Rattle.kinds.specs.declared.kind.Kind.the-variants.{Int, Class}
 use Rattle.opcodes.specs.declared.opcode.Instruction.{Instruction}
@@ -31,6 +32,10 @@ ruleOf d is =
 abbrev pub runsOn : ℕ → List Instruction → ℕ → Outcome → Claim
 runsOn d is n o = runs (ruleOf d is) (ferryOf (pos 30)) n o
 
+-- thirty-one objects made and dropped, so that with the vessel 32 stand and there are no operands
+abbrev pub fullHouse : List Instruction
+fullHouse = joined (λ (n : ℕ). instruction New n ∷ instruction Drop 0 ∷ []) (replicate 31 1)
+
 abbrev pub machineExamples : List Claim
 machineExamples =
     -- a ferry whose first cell is 30 gets berth 1 in 8 steps; 40 gets berth 2 in 9
@@ -48,7 +53,8 @@ machineExamples =
     -- each stop: a null owner; a thirty-second object beside the vessel
     ∷ runsOn 2 (instruction Nil 0 ∷ instruction Get 8 ∷ []) 2 (stopped 1)
     ∷ runsOn 2 (instruction New 1 ∷ instruction Drop 0 ∷ instruction Jump 0 ∷ []) 94 (stopped 2)
-    -- too few operands goes before an operand that does not conform
+    -- too few operands goes before an operand that does not conform, and before a row held
+    ∷ runsOn 2 (instruction Push 1 ∷ instruction Post 0 ∷ instruction Post 0 ∷ []) 3 (fault 1)
     ∷ runsOn 2 (instruction Nil 0 ∷ instruction Add 0 ∷ []) 2 (fault 1)
     -- an int 0 is no reference, and null is no int
     ∷ runsOn 2 (instruction Push 0 ∷ instruction Brnull 0 ∷ []) 2 (fault 3)
@@ -58,7 +64,7 @@ machineExamples =
     ∷ runsOn 2 (instruction Nil 0 ∷ instruction Nil 0 ∷ instruction Put 8 ∷ []) 3 (fault 3)
     -- an unset slot goes before the depth; a stop goes before the depth
     ∷ runsOn 0 (instruction Load 1 ∷ []) 1 (fault 4)
-    ∷ runsOn 1 (instruction New 1 ∷ instruction Drop 0 ∷ instruction Jump 0 ∷ []) 94 (stopped 2)
+    ∷ runsOn 1 (fullHouse ++ (instruction Push 1 ∷ instruction New 1 ∷ [])) 64 (stopped 2)
     ∷ runsOn 0 (instruction New 1 ∷ []) 1 (fault 2)
     -- a barge may not stand where a ferry is asked for, a ferry where a vessel is may
     ∷ runsOn 2 (instruction New 4 ∷ instruction New 3 ∷ instruction Put 32 ∷ []) 3 (fault 3)
