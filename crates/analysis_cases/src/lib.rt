@@ -1,4 +1,6 @@
 //! The worked examples: one list of claims, each of which the checker computes to be so.
+#![tactic(auto)]
+
 ghost use Rattle.analysis_cases.specs.Claims.{Every};
 ghost use Rattle.analysis_cases.specs.Examples.{examples};
 

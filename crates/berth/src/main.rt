@@ -1,4 +1,6 @@
 //! The program `berth` shows rule units: the built-in rule, or the unit that a file holds.
+#![tactic(auto)]
+
 mod command;
 mod explain;
 mod failure;

@@ -1,4 +1,6 @@
 //! The program `berth` shows rule units, the built-in rule or the unit that a file holds, and what the analyses say of them.
+#![tactic(auto)]
+
 mod effects;
 mod explain;
 mod failure;

@@ -1,4 +1,6 @@
 //! Prints a verdict on each unit of a file of many, in the form in which a second, independent tool prints its own.
+#![tactic(auto)]
+
 mod corpus;
 mod digest;
 mod verdict;

@@ -1,4 +1,6 @@
 //! Prints a line for each query of a file of states, in the form in which a second, independent tool prints its own.
+#![tactic(auto)]
+
 mod answer;
 mod line;
 

@@ -1,4 +1,6 @@
 //! The files that the second tool makes, taken piece by piece: units, and units with queries on their states.
+#![tactic(auto)]
+
 pub mod block;
 pub mod cursor;
 pub mod query;

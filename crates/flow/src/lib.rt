@@ -1,4 +1,6 @@
 //! Certificates: check, generic over the analysis, over lent tables.
+#![tactic(auto)]
+
 pub mod check;
 mod entries;
 mod tables;

@@ -1,11 +1,11 @@
-ghost use Rattle.std.specs.Prelude.{◌≡◌, Decides};
-ghost use Rattle.std.specs.Cmp.Rules.{comparing};
 ghost use Rattle.std.proofs.Common.{rules};
+ghost use Rattle.std.specs.Cmp.Rules.{comparing};
+ghost use Rattle.kinds.specs.Same.{alike};
 
 use crate::kind::Kind;
 
 impl PartialEq for Kind {
-    ghost equals = { λ a b r. Decides r (a ≡ b) };
+    ghost eq = { alike };
 
     ghost laws = { Prim.search (comparing, rules) };
 

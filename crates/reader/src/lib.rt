@@ -1,4 +1,6 @@
 //! Reading the bytes of a rule unit: where its parts lie, or the first thing that is wrong.
+#![tactic(auto)]
+
 pub mod bytes;
 mod classes;
 mod code;

@@ -1,4 +1,6 @@
 //! The three analyses that a board rests on, as one: types paired with the pair of slots and rows.
+#![tactic(auto)]
+
 use analysis::pair::Pair;
 use rows::rows::Rows;
 use slots::slots::Slots;

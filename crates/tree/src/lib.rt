@@ -1,4 +1,6 @@
 //! The class tree: which kinds lie below which, and the least kind above two.
+#![tactic(auto)]
+
 ghost use Rattle.std.specs.Prelude.{◌≡◌, Decides};
 ghost use Rattle.kinds.specs.declared.kind.Kind.TheVariants.{Class};
 ghost use Rattle.lattice.specs.Computing.{lies, least_of};

@@ -1,4 +1,6 @@
 //! The reader for C and Rust, as a static library: a slice of bytes passes as a pointer and a length.
+#![tactic(auto)]
+
 ghost use Rattle.std.specs.Prelude.{◌≡◌, ℕ, ◌*◌};
 ghost use Rattle.format.specs.Reading.{reading};
 ghost use Rattle.unit_abi.specs.Answers.{answer_of, refused_once};

@@ -23,7 +23,7 @@ returns c =
     (subst
     (λ (w : ℕ). count_at c.args.bytes.now (c.args.classes.start + 19 * w) ≤ count_at c.args.bytes.now (c.args.classes.start + 19 * c.args.i))
     c.word-parent.ensures c.if-inherited-count.false)
-    c.if-count-gt8.false c.fields-agree-2.result
+    c.if-count-gt8.false c.fields_agree-2.result
     (subst
-    (λ (w : ℕ). c.fields-agree-2.result ≡ up_to 8 (field_agrees c.args.bytes.now c.args.classes.count (c.args.classes.start + 19 * c.args.i) (c.args.classes.start + 19 * w) (count_at c.args.bytes.now (c.args.classes.start + 19 * w))))
-    c.word-parent.ensures c.fields-agree-2.ensures)
+    (λ (w : ℕ). c.fields_agree-2.result ≡ up_to 8 (field_agrees c.args.bytes.now c.args.classes.count (c.args.classes.start + 19 * c.args.i) (c.args.classes.start + 19 * w) (count_at c.args.bytes.now (c.args.classes.start + 19 * w))))
+    c.word-parent.ensures c.fields_agree-2.ensures)

@@ -19,7 +19,7 @@ returns-then-not-field-same c =
 
 pub returns : goal.returns
 returns c =
-    c.rest-reads.ensures
+    c.rest_reads.ensures
     ∙ up_to_same (λ k. ltb k c.args.n || field_readable c.args.bytes.now c.args.classes c.args.at k)
     (field_agrees c.args.bytes.now c.args.classes c.args.at c.args.up c.args.n) 8
     (λ k l. agrees_or_reads c.args.bytes.now c.args.classes c.args.at c.args.up c.args.n k (c.loop-k.invariant k (omega arith)))

@@ -9,7 +9,7 @@ returns-then-not-class-reads c =
     (λ j _ l. c.loop-i.invariant j l) (sym c.class-reads.ensures ∙ c.if-not-class-reads.true))
 
 pub loop-i-preserved : goal.loop-i-preserved
-loop-i-preserved c = below_more _ _ c.loop-i.invariant (sym c.class-reads.ensures ∙ c.if-not-class-reads.false)
+loop-i-preserved c = below_more _ _ c.loop-i.invariant (sym c.class_reads.ensures ∙ c.if-not-class_reads.false)
 
 pub returns : goal.returns
 returns c = sym (first_none (class_readable c.args.bytes.now c.args.classes) 0 c.args.classes.count (λ j _ l. c.loop-i.invariant j (omega arith)))

@@ -9,7 +9,7 @@ returns-then-not-instruction-reads c =
     (λ j _ l. c.loop-i.invariant j l) (sym c.instruction-reads.ensures ∙ c.if-not-instruction-reads.true))
 
 pub loop-i-preserved : goal.loop-i-preserved
-loop-i-preserved c = below_more _ _ c.loop-i.invariant (sym c.instruction-reads.ensures ∙ c.if-not-instruction-reads.false)
+loop-i-preserved c = below_more _ _ c.loop-i.invariant (sym c.instruction_reads.ensures ∙ c.if-not-instruction_reads.false)
 
 pub returns : goal.returns
 returns c = sym (first_none (instruction_readable c.args.bytes.now c.args.layout) 0 c.args.layout.code.count (λ j _ l. c.loop-i.invariant j (omega arith)))

@@ -5,6 +5,6 @@ use Rattle.reader.proofs.layout.layout.Goals as goal
 pub returns : goal.returns
 returns c =
     record {
-      outcome = c.contents.ensures ∙ framed_reading c.args.bytes.now _ (sym c.framing.ensures.value ∙ c.in-ok-frame.was);
-      bytes = c.are-bytes.ensures;
+      outcome = c.contents.ensures ∙ framed_reading c.args.bytes.now _ (sym c.framing.ensures.value ∙ c.in_ok-frame.was);
+      bytes = c.are_bytes.ensures;
     }

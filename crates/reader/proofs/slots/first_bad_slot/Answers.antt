@@ -9,7 +9,7 @@ returns-then-not-slot-reads c =
     (λ j _ l. c.loop-i.invariant j l) (sym c.slot-reads.ensures ∙ c.if-not-slot-reads.true))
 
 pub loop-i-preserved : goal.loop-i-preserved
-loop-i-preserved c = below_more _ _ c.loop-i.invariant (sym c.slot-reads.ensures ∙ c.if-not-slot-reads.false)
+loop-i-preserved c = below_more _ _ c.loop-i.invariant (sym c.slot_reads.ensures ∙ c.if-not-slot_reads.false)
 
 pub returns : goal.returns
 returns c = sym (first_none (slot_readable c.args.bytes.now c.args.classes c.args.slots) 0 c.args.slots.count (λ j _ l. c.loop-i.invariant j (omega arith)))
