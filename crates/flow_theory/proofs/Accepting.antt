@@ -155,7 +155,7 @@ module _ {S : Type 0} {p : Parts} {m : Meaning S} (laws : Laws p m) (entries : T
 
     led : (i j : ℕ) (s : S) (t : Turned p m entries i s) → Leads p i j → HoldsAbove m (held p m entries j) t.after
     led i j s t (next w) = onward_above i t.after w t.goes_on
-    led i j s t (jump w) = jump_above i t.after w t.jumps-well
+    led i j s t (jump w) = jump_above i t.after w t.jumps_well
 
     flows_at : (i : ℕ) (s : S) → held p m entries i ≡ Some s → Accepts (m.after i s) (λ t. (j : ℕ) → Leads p i j → HoldsAbove m (held p m entries j) t)
     flows_at i s h =

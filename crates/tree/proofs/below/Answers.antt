@@ -12,17 +12,17 @@ pub returns-in-Int-matches : goal.returns-in-Int-matches
 returns-in-Int-matches c =
     below_answer c.args.unit.now _ _ _ (yes (below_equal _ _ _ (c.in-Int-matches.is ∙ sym c.in-Int.is)))
 
-pub returns-in-default : goal.returns-in-default
-returns-in-default c =
-    below_answer c.args.unit.now _ _ _ (no (λ h. c.in-default.not-Int (below_int (parts_of c.args.unit.now) _ _ c.in-Int.is h)))
+pub returns-in_default : goal.returns-in_default
+returns-in_default c =
+    below_answer c.args.unit.now _ _ _ (no (λ h. c.in_default.not-Int (below_int (parts_of c.args.unit.now) _ _ c.in-Int.is h)))
 
 pub returns-in-Null-matches : goal.returns-in-Null-matches
 returns-in-Null-matches c =
     below_answer c.args.unit.now _ _ _ (yes (below_equal _ _ _ (c.in-Null-matches.is ∙ sym c.in-Null.is)))
 
-pub returns-in-default-matches : goal.returns-in-default-matches
-returns-in-default-matches c =
-    below_answer c.args.unit.now _ _ _ (no (λ h. c.in-default-matches.not-Null (below_null (parts_of c.args.unit.now) _ _ c.in-Null.is h)))
+pub returns-in_default-matches : goal.returns-in_default-matches
+returns-in_default-matches c =
+    below_answer c.args.unit.now _ _ _ (no (λ h. c.in_default-matches.not-Null (below_null (parts_of c.args.unit.now) _ _ c.in-Null.is h)))
 
 pub returns-in-Null-a : goal.returns-in-Null-a
 returns-in-Null-a c =

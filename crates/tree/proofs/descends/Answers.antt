@@ -11,9 +11,9 @@ returns-then-at-eq0 c =
     c.loop-at.invariant false
     (no (λ h. root_none (parts_of c.args.unit.now) _ _ c.if-at-eq0.true (below_other _ _ _ c.loop-at-test.true h)))
 
-pub returns-in-default : goal.returns-in-default
-returns-in-default c =
-    let past = none_within _ _ _ c.in-default.ensures.value in
+pub returns-in_default : goal.returns-in_default
+returns-in_default c =
+    let past = none_within _ _ _ c.in_default.ensures.value in
     c.loop-at.invariant false
     (no (λ h. unknown_none (parts_of c.args.unit.now) _ _ past (below_other _ _ _ c.loop-at-test.true h)))
 

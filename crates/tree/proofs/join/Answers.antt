@@ -33,4 +33,4 @@ returns-in-Int-b-3 c =
 
 pub returns-in-Class-b : goal.returns-in-Class-b
 returns-in-Class-b c =
-    join_answer c.args.unit.now _ _ _ (simp (c.in-Class.is, c.in-Class-b.is) c.join-classes.ensures)
+    join_answer c.args.unit.now _ _ _ (simp (c.in-Class.is, c.in-Class-b.is) c.join_classes.ensures)

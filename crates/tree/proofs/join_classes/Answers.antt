@@ -6,11 +6,11 @@ use Rattle.lattice.proofs.Plain.{below_equal, least_swap, least_above}
 use Rattle.lattice.proofs.Joins.{climb_least, lone_least}
 use Rattle.tree.proofs.join_classes.Goals as goal
 
-pub returns-in-default : goal.returns-in-default
-returns-in-default c =
+pub returns-in_default : goal.returns-in_default
+returns-in_default c =
     c.loop-left.invariant Unusable
-    (lone_least (parts_of c.args.unit.now) c.in-default.ensures.lower _ _ c.if-left-right.true
-    (none_within _ _ _ c.in-default.ensures.value))
+    (lone_least (parts_of c.args.unit.now) c.in_default.ensures.lower _ _ c.if-left-right.true
+    (none_within _ _ _ c.in_default.ensures.value))
 
 pub loop-left-preserved-then-left-right : goal.loop-left-preserved-then-left-right
 loop-left-preserved-then-left-right c =
@@ -19,11 +19,11 @@ loop-left-preserved-then-left-right c =
     c.loop-left.invariant k
     (climb_least (parts_of c.args.unit.now) c.in-Some.ensures.lower _ _ _ k c.if-left-right.true up.0 up.1 h)
 
-pub returns-in-default-parent : goal.returns-in-default-parent
-returns-in-default-parent c =
+pub returns-in_default-parent : goal.returns-in_default-parent
+returns-in_default-parent c =
     c.loop-left.invariant Unusable
-    (least_swap _ _ _ _ (lone_least (parts_of c.args.unit.now) c.in-default-parent.ensures.lower _ _ (omega (arith, c.loop-left-test.true))
-    (none_within _ _ _ c.in-default-parent.ensures.value)))
+    (least_swap _ _ _ _ (lone_least (parts_of c.args.unit.now) c.in_default-parent.ensures.lower _ _ (omega (arith, c.loop-left-test.true))
+    (none_within _ _ _ c.in_default-parent.ensures.value)))
 
 pub loop-left-preserved : goal.loop-left-preserved
 loop-left-preserved c =

@@ -2,7 +2,7 @@ use Rattle.std.proofs.Common.{◌<◌, length, arith}
 use Rattle.format.specs.Parts.{instruction_of}
 use Rattle.unit.specs.Model.{parts_of}
 use Rattle.berth.proofs.Marks.{marked_none, marked_more, not_none}
-use Rattle.berth.proofs.listing.targets.Goals.{in-Some, in-default}
+use Rattle.berth.proofs.listing.targets.Goals.{in-Some, in_default}
 use Rattle.berth.proofs.listing.targets.Goals as goal
 
 pub loop-at-init : goal.loop-at-init
@@ -12,9 +12,9 @@ pub loop-at-preserved : goal.loop-at-preserved
 loop-at-preserved c =
     let p = parts_of c.args.unit.now in
     let n = c.loop-at.at in
-    let l : n < length p.code = omega (arith, c.loop-at-test.true, c.code-len-at-end.ensures.value) in
+    let l : n < length p.code = omega (arith, c.loop-at-test.true, c.code_len-at-end.ensures.value) in
     elim c.match-instruction.branch [
       | in-Some w ↦ marked_more p n c.loop-at.marks w.mark.new.marks c.match-instruction.marks w.in-Some.instruction l
           w.in-Some.ensures w.marks-is w.mark.ensures w.mark.array_long c.loop-at.invariant
-      | in-default w ↦ absurd (not_none n (length p.code) (instruction_of p n) l w.in-default.ensures)
+      | in_default w ↦ absurd (not_none n (length p.code) (instruction_of p n) l w.in_default.ensures)
     ]

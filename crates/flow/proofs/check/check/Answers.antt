@@ -9,10 +9,10 @@ use Rattle.flow.proofs.check.check.Goals as goal
 
 pub judge-verdict-requires : goal.judge-verdict-requires
 judge-verdict-requires g c =
-    let n = c.code-len-count.result in
+    let n = c.code_len-count.result in
     let table = c.args.table.now in
     let marks = c.args.marks.now in
-    let len = c.code-len-count.ensures.value in
+    let len = c.code_len-count.ensures.value in
     let long : n ≤ length c.fill.new.table =
     omega (arith, ap length c.fill.ensures, length_filled n 0 marks c.if-marks-count.false, c.if-marks-count.false) in (
       length-take-le n table c.if-table-count.false ∙ len,
@@ -23,10 +23,10 @@ pub returns : goal.returns
 returns g c =
     let p = parts_of c.args.unit.now in
     let m = g.A.Analysis.meaning c.args.analysis.now p in
-    let n = c.code-len-count.result in
+    let n = c.code_len-count.result in
     let table = c.args.table.now in
     let marks = c.args.marks.now in
-    let len = c.code-len-count.ensures.value in
+    let len = c.code_len-count.ensures.value in
     let room : roomy n (length table) (length marks) ≡ true = and_from _ _ (le-leb n (length table) c.if-table-count.false) (le-leb n (length marks) c.if-marks-count.false) in
     let roomy-code : roomy (length p.code) (length table) (length marks) ≡ true = subst (λ (k : ℕ). roomy k (length table) (length marks) ≡ true) len room in
     let long : n ≤ length c.fill.new.table =
@@ -49,6 +49,6 @@ returns g c =
           ∙ ap (λ (k : ℕ). filled k 0 marks) len
           ∙ sym (rw roomy-code refl);
       safe =
-          yes_is_safe (g.met.A.Analysis.laws c.args.analysis.now p c.keeps-rules.ensures) c.keeps-rules.ensures c.args.certificate.now
-          c.are-bytes.ensures c.judge-verdict.result (sym c.judge-verdict.ensures);
+          yes_is_safe (g.met.A.Analysis.laws c.args.analysis.now p c.keeps_rules.ensures) c.keeps_rules.ensures c.args.certificate.now
+          c.are_bytes.ensures c.judge-verdict.result (sym c.judge-verdict.ensures);
     }

@@ -12,10 +12,10 @@ agrees_or_reads bs classes at up n k inherited =
     (λ (l : n ≤ k). let f = le-ltb k n l in rw f refl)
     (cases_lt k n)
 
-pub returns-then-not-field-same : goal.returns-then-not-field-same
-returns-then-not-field-same c =
+pub returns-then-not-field_same : goal.returns-then-not-field_same
+returns-then-not-field_same c =
     sym (up_to_fails (field_agrees c.args.bytes.now c.args.classes c.args.at c.args.up c.args.n) 8 c.loop-k.k (omega arith)
-    (cond-true _ _ _ (lt-ltb c.loop-k.k c.args.n c.if-k-n.true) ∙ sym c.field-same.ensures ∙ c.if-not-field-same.true))
+    (cond-true _ _ _ (lt-ltb c.loop-k.k c.args.n c.if-k-n.true) ∙ sym c.field_same.ensures ∙ c.if-not-field_same.true))
 
 pub returns : goal.returns
 returns c =

@@ -3,10 +3,10 @@ use Rattle.format.specs.Tests.{instruction_readable}
 use Rattle.format.proofs.Ranges.{first_none, first_some}
 use Rattle.reader.proofs.code.first_bad_instruction.Goals as goal
 
-pub returns-then-not-instruction-reads : goal.returns-then-not-instruction-reads
-returns-then-not-instruction-reads c =
+pub returns-then-not-instruction_reads : goal.returns-then-not-instruction_reads
+returns-then-not-instruction_reads c =
     sym (first_some (instruction_readable c.args.bytes.now c.args.layout) 0 c.args.layout.code.count c.loop-i.i (omega arith) (omega arith)
-    (λ j _ l. c.loop-i.invariant j l) (sym c.instruction-reads.ensures ∙ c.if-not-instruction-reads.true))
+    (λ j _ l. c.loop-i.invariant j l) (sym c.instruction_reads.ensures ∙ c.if-not-instruction_reads.true))
 
 pub loop-i-preserved : goal.loop-i-preserved
 loop-i-preserved c = below_more _ _ c.loop-i.invariant (sym c.instruction_reads.ensures ∙ c.if-not-instruction_reads.false)

@@ -46,4 +46,4 @@ returns-else-operands-most-2 c =
     let fits : length ks ≤ p.depth =
     omega (arith, c.depth-most.ensures.value, c.if-operands-most-2.false, stack_length s.kinds s.depth) in
     left_shallow p _ ks (stack c.push.new.operands) (Ok tt) (ap (λ o. left p c.args.n o (stack s)) c.in-Some.is) fits refl
-    (c.push.ensures ∙ ap (λ k. k ∷ stack s) c.shape-kind.ensures)
+    (c.push.ensures ∙ ap (λ k. k ∷ stack s) c.shape_kind.ensures)

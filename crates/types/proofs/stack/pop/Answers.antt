@@ -4,8 +4,8 @@ use Rattle.types_theory.proofs.Cells.{stack_set, stack_top, clear_more}
 use Rattle.types.proofs.Taking.{popped}
 use Rattle.types.proofs.stack.pop.Goals as goal
 
-pub invariant-of-operands : goal.invariant-of-operands
-invariant-of-operands c =
+pub invariant_of-operands : goal.invariant_of-operands
+invariant_of-operands c =
     let s = c.args.operands.now in
     let cells = s.cells in
     let few = s.few in

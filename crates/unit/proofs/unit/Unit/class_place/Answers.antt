@@ -4,8 +4,8 @@ use Rattle.format.proofs.Bounds.{kept_bounds}
 use Rattle.format.proofs.Views.{class_count, class_view, field_count_view}
 use Rattle.unit.proofs.unit.Unit.class_place.Goals as goal
 
-pub overflow-add-result : goal.overflow-add-result
-overflow-add-result c = let b = kept_bounds c.args.self.now.bytes.now c.args.self.now.layout c.args.self.now.reads in search rules
+pub overflow_add-result : goal.overflow_add-result
+overflow_add-result c = let b = kept_bounds c.args.self.now.bytes.now c.args.self.now.layout c.args.self.now.reads in search rules
 
 pub returns-then-class-self : goal.returns-then-class-self
 returns-then-class-self c =

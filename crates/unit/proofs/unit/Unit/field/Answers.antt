@@ -6,11 +6,11 @@ use Rattle.unit.proofs.unit.Unit.field.Goals as goal
 
 pub returns-then-field-self : goal.returns-then-field-self
 returns-then-field-self c =
-    field_past (parts_of c.args.self.now) c.args.self.now.bytes.now c.in-ok-at.at c.args.class c.args.field
-    c.in-ok-at.ensures.2 c.if-field-self.true
+    field_past (parts_of c.args.self.now) c.args.self.now.bytes.now c.in_ok-at.at c.args.class c.args.field
+    c.in_ok-at.ensures.2 c.if-field-self.true
 
 pub returns : goal.returns
 returns c =
-    field_here (parts_of c.args.self.now) c.args.self.now.bytes.now c.in-ok-at.at c.args.class c.args.field
-    c.in-ok-at.ensures.2 c.from-code.result c.in-ok-at.ensures.0 c.if-field-self.false
-    (c.from-code.ensures ∙ ap kind_of c.word.ensures)
+    field_here (parts_of c.args.self.now) c.args.self.now.bytes.now c.in_ok-at.at c.args.class c.args.field
+    c.in_ok-at.ensures.2 c.from_code.result c.in_ok-at.ensures.0 c.if-field-self.false
+    (c.from_code.ensures ∙ ap kind_of c.word.ensures)

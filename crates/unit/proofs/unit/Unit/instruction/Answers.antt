@@ -10,6 +10,6 @@ same_instruction o p m n e f = rw (e, f)
 
 pub returns : goal.returns
 returns c =
-    let e = c.in-ok-place.ensures in
+    let e = c.in_ok-place.ensures in
     within_some _ _ _ _ e.0
-    (same_instruction _ _ _ _ (sym (opcode_at_number _ _ (sym c.in-ok-opcode.ensures))) c.word.ensures ∙ sym e.2)
+    (same_instruction _ _ _ _ (sym (opcode_at_number _ _ (sym c.in_ok-opcode.ensures))) c.word.ensures ∙ sym e.2)

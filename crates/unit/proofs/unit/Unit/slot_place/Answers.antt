@@ -3,11 +3,11 @@ use Rattle.format.proofs.Bounds.{kept_bounds}
 use Rattle.format.proofs.Views.{slot_count, slot_view}
 use Rattle.unit.proofs.unit.Unit.slot_place.Goals as goal
 
-pub overflow-mul-result : goal.overflow-mul-result
-overflow-mul-result c = let b = kept_bounds c.args.self.now.bytes.now c.args.self.now.layout c.args.self.now.reads in search rules
+pub overflow_mul-result : goal.overflow_mul-result
+overflow_mul-result c = let b = kept_bounds c.args.self.now.bytes.now c.args.self.now.layout c.args.self.now.reads in search rules
 
-pub overflow-add-result : goal.overflow-add-result
-overflow-add-result c = let b = kept_bounds c.args.self.now.bytes.now c.args.self.now.layout c.args.self.now.reads in search rules
+pub overflow_add-result : goal.overflow_add-result
+overflow_add-result c = let b = kept_bounds c.args.self.now.bytes.now c.args.self.now.layout c.args.self.now.reads in search rules
 
 pub returns-then-slot-self : goal.returns-then-slot-self
 returns-then-slot-self c =

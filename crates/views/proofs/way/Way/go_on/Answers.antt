@@ -9,6 +9,6 @@ returns-in-Err c =
 
 pub returns-in-Some : goal.returns-in-Some
 returns-in-Some c =
-    let k = goes_on (parts_of c.args.unit.now) c.args.self.now c.come-to.new.self c.effect.new.state c.in-Some.next c.come-to.result
-    c.in-default.ensures c.in-Some.ensures.value c.come-to.ensures.why c.come-to.ensures.after in
+    let k = goes_on (parts_of c.args.unit.now) c.args.self.now c.come_to.new.self c.effect.new.state c.in-Some.next c.come_to.result
+    c.in_default.ensures c.in-Some.ensures.value c.come_to.ensures.why c.come_to.ensures.after in
     record { why = k.0; after = k.1 }
