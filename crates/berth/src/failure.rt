@@ -1,14 +1,11 @@
 use crate::explain::Explained;
 use format::refusal::ReadError;
 use std::io;
+use std::process::ExitCode;
 
 /// How the program is called.
 const USAGE: &str = "usage: berth              shows the built-in rule
        berth show FILE    shows the unit in a file";
-
-/// The program failed, and has said why.
-#[derive(Drop)]
-pub struct Failed;
 
 /// Why the program does not do what it is asked to.
 #[derive(Clone, Copy)]
@@ -32,8 +29,9 @@ impl<'a> From<io::Error> for Failure<'a> {
 }
 
 impl<'a> Failure<'a> {
-    /// Says what went wrong, a refused unit on the standard output and all else on the standard error.
-    pub fn tell(self, rt: &HostRuntime) -> Failed {
+    /// Says what went wrong, a refused unit on the standard output and all else on the standard error, and answers the
+    /// status with which the program ends.
+    pub fn tell(self, rt: &HostRuntime) -> ExitCode {
         let _ = match self {
             Failure::Arguments(error) => eprintln!(rt; "berth: cannot read the arguments: {error}"),
             Failure::Usage => eprintln!(rt; "{USAGE}"),
@@ -41,6 +39,6 @@ impl<'a> Failure<'a> {
             Failure::Refused(error) => rt.println(Explained { error }),
             Failure::Output(error) => eprintln!(rt; "berth: cannot write: {error}"),
         };
-        Failed
+        ExitCode::FAILURE
     }
 }

@@ -1,16 +1,13 @@
 use crate::explain::Explained;
 use format::refusal::ReadError;
 use std::io;
+use std::process::ExitCode;
 
 /// How the program is called.
 const USAGE: &str =
     "usage: berth_effects                   shows the built-in rule, and what the analyses say of it
        berth_effects show FILE         shows the unit in a file
        berth_effects effects [FILE]    shows what the analyses say of the unit in a file, or of the built-in rule";
-
-/// The program failed, and has said why.
-#[derive(Drop)]
-pub struct Failed;
 
 /// Why the program does not do what it is asked to.
 #[derive(Clone, Copy)]
@@ -34,8 +31,9 @@ impl<'a> From<io::Error> for Failure<'a> {
 }
 
 impl<'a> Failure<'a> {
-    /// Says what went wrong, a refused unit on the standard output and all else on the standard error.
-    pub fn tell(self, rt: &HostRuntime) -> Failed {
+    /// Says what went wrong, a refused unit on the standard output and all else on the standard error, and answers the
+    /// status with which the program ends.
+    pub fn tell(self, rt: &HostRuntime) -> ExitCode {
         let _ = match self {
             Failure::Arguments(error) => eprintln!(rt;
                 "berth_effects: cannot read the arguments: {error}"
@@ -47,6 +45,6 @@ impl<'a> Failure<'a> {
             Failure::Refused(error) => rt.println(Explained { error }),
             Failure::Output(error) => eprintln!(rt; "berth_effects: cannot write: {error}"),
         };
-        Failed
+        ExitCode::FAILURE
     }
 }

@@ -12,8 +12,9 @@ mod show;
 mod state;
 
 use effects::Effects;
-use failure::{Failed, Failure};
+use failure::Failure;
 use show::Shown;
+use std::process::ExitCode;
 use std::{env, fs, io};
 use unit::read::read;
 use unit::unit::Unit;
@@ -70,13 +71,13 @@ fn run<'a>(rt: &HostRuntime, words: &'a [String]) -> Result<(), Failure<'a>> {
     }
 }
 
-fn main(rt: HostRuntime) -> Result<(), Failed> {
+fn main(rt: HostRuntime) -> ExitCode {
     let words = match arguments(&rt) {
         Ok(words) => words,
-        Err(failure) => return Err(failure.tell(&rt)),
+        Err(failure) => return failure.tell(&rt),
     };
     match run(&rt, words.as_slice()) {
-        Ok(()) => Ok(()),
-        Err(failure) => Err(failure.tell(&rt)),
+        Ok(()) => ExitCode::SUCCESS,
+        Err(failure) => failure.tell(&rt),
     }
 }

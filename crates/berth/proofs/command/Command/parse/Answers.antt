@@ -1,7 +1,7 @@
 use Rattle.std.proofs.Common.{◌≡◌, ℕ, ◌<◌, List, [], ◌∷◌, map, length, string_bytes, sym, subst, rules}
 use Rattle.berth.specs.Commands.{Asks}
 use Rattle.berth.proofs.Commands.{no_words, two_words, no_command}
-use Rattle.berth.proofs.command.Command.parse.Goals.{in_default-via-then-words-lt2, in-default-via-else-words-lt2+else-words-lt3}
+use Rattle.berth.proofs.command.Command.parse.Goals.{in_default-via-then-words-lt2, in_default-via-else-words-lt2+else-words-lt3}
 use Rattle.berth.proofs.command.Command.parse.Goals as goal
 
 pub returns-in-empty : goal.returns-in-empty
@@ -18,5 +18,5 @@ pub returns-in_default : goal.returns-in_default
 returns-in_default c =
     let some : 0 < length c.args.words.now = search rules in
     let two : length c.args.words.now ≡ 2 → ⊥ =
-    λ e. elim c.in_default.branch [ in_default-via-then-words-lt2 w ↦ search rules | in-default-via-else-words-lt2+else-words-lt3 w ↦ search rules ] in
+    λ e. elim c.in_default.branch [ in_default-via-then-words-lt2 w ↦ search rules | in_default-via-else-words-lt2+else-words-lt3 w ↦ search rules ] in
     no_command string_bytes c.args.words.now some two
