@@ -1,7 +1,6 @@
 -- An analysis that keeps the laws keeps them in another form too, where the form and the states determine each other.
-use Rattle.std.proofs.Common.{◌≡◌, ℕ, ◌<◌, Bool, true, false, ◌⊎◌, List, ◌++◌, length, drop, Some, None, Ok, Err, Option, Result, sym, refl, ap, ◌∙◌, subst, inl, inr, ⊎_elim, arith}
+use Rattle.std.proofs.Common.{◌≡◌, ℕ, ◌<◌, true, ◌++◌, length, drop, Some, None, Ok, Err, Option, Result, sym, refl, ap, ◌∙◌, subst, inl, inr, ⊎_elim, arith}
 use Rattle.format.specs.Parts.{Parts}
-use Rattle.machine.specs.Configuration.{Configuration, Outcome}
 use Rattle.machine.specs.Step.{step}
 use Rattle.machine.specs.Runs.{start}
 use Rattle.analysis_theory.specs.declared.fault.Fault.{Fault}

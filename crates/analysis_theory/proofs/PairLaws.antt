@@ -1,19 +1,16 @@
 -- A pair of analyses that keep the laws keeps them.
-use Rattle.std.proofs.Common.{◌≡◌, ℕ, ◌+◌, ◌<◌, Bool, true, false, ◌&&◌, ◌||◌, ◌⊎◌, List, ◌++◌, length, drop, Some, None, Ok, Err, Option, Result, sym, refl, ap, ◌∙◌, subst, inl, inr, ⊎_elim, append_assoc, arith, length-append, drop_at}
-use Rattle.std.proofs.lemmas.Bool.{and_from, and_parts, or_parts, or_left, or_right, or_from}
+use Rattle.std.proofs.Common.{◌≡◌, ℕ, ◌+◌, ◌<◌, true, ◌&&◌, ◌⊎◌, List, ◌++◌, length, drop, None, Ok, Err, sym, refl, ap, ◌∙◌, inl, inr, ⊎_elim, append_assoc, arith, length-append, drop_at}
+use Rattle.std.proofs.lemmas.Bool.{and_from, and_parts, or_left, or_right, or_from}
 use Rattle.format.specs.Bytes.{AllBytes}
 use Rattle.format.specs.Parts.{Parts}
-use Rattle.machine.specs.Configuration.{Configuration, Outcome, goes, returned, stopped, fault}
+use Rattle.machine.specs.Configuration.{Outcome, goes, returned, stopped, fault}
 use Rattle.machine.specs.Step.{step}
-use Rattle.machine.specs.Ways.{Expects}
 use Rattle.analysis_theory.specs.declared.both.Both.{Both}
-use Rattle.analysis_theory.specs.declared.fault.Fault.{Fault}
-use Rattle.analysis_theory.specs.declared.fault.Unreadable.{Unreadable}
 use Rattle.analysis_theory.specs.Meaning.{Meaning, Got}
-use Rattle.analysis_theory.specs.Laws.{Laws, Accepts, Allowed}
-use Rattle.analysis_theory.specs.Pairs.{both, both_join, both_after, got_both, then_read, both_parsed, pair_meaning}
+use Rattle.analysis_theory.specs.Laws.{Laws, Allowed}
+use Rattle.analysis_theory.specs.Pairs.{got_both, then_read, both_parsed, pair_meaning}
 use Rattle.analysis_theory.proofs.Writings.{bytes_append, bytes_drop}
-use Rattle.analysis_theory.proofs.PairParts.{joined_parts, refused_part, after_parts, fault_part, accepts_both, ReadParts, read_parts, unread_part}
+use Rattle.analysis_theory.proofs.PairParts.{joined_parts, refused_part, after_parts, fault_part, accepts_both, read_parts, unread_part}
 
 -- a step that both parts allow, the pair allows
 allowed_both : {A B : Type 0} (x : Meaning A) (y : Meaning B) (t : Both A B) (o : Outcome) → Allowed x t.left o → Allowed y t.right o → Allowed (pair_meaning x y) t o

@@ -1,5 +1,5 @@
 -- What an answer of a pair says of its parts.
-use Rattle.std.proofs.Common.{◌≡◌, ℕ, ◌+◌, ◌⊎◌, List, Some, None, Ok, Err, Option, Result, refl, subst, inl, inr, arith}
+use Rattle.std.proofs.Common.{◌≡◌, ℕ, ◌+◌, ◌⊎◌, Some, None, Ok, Err, Option, Result, refl, subst, inl, inr, arith}
 use Rattle.analysis_theory.specs.declared.both.Both.{Both}
 use Rattle.analysis_theory.specs.declared.fault.Fault.{Fault}
 use Rattle.analysis_theory.specs.declared.fault.Unreadable.{Unreadable}

@@ -1,5 +1,5 @@
 -- Under a stable typing nothing goes wrong: the machine stands at an instruction with a state that describes it.
-use Rattle.std.proofs.Common.{◌≡◌, ℕ, zero, suc, ◌<◌, true, false, length, Some, None, Ok, Err, Option, Result, sym, refl, subst}
+use Rattle.std.proofs.Common.{◌≡◌, ℕ, zero, suc, ◌<◌, true, false, length, Some, None, Ok, Err, Option, Result, refl}
 use Rattle.format.specs.Parts.{Parts}
 use Rattle.machine.specs.Values.{Vessel}
 use Rattle.machine.specs.Configuration.{Configuration, Outcome, goes, returned, stopped, fault}
@@ -10,7 +10,7 @@ use Rattle.machine.proofs.Outline.{step_along}
 use Rattle.analysis_theory.specs.declared.fault.Fault.{Fault}
 use Rattle.analysis_theory.specs.Meaning.{Meaning}
 use Rattle.analysis_theory.specs.Laws.{Laws, Accepts, Allowed}
-use Rattle.analysis_theory.specs.Typing.{Typing, HoldsAbove, Stable, Starts, rule, Unharmed, NeverWrong}
+use Rattle.analysis_theory.specs.Typing.{Typing, HoldsAbove, Stable, rule, Unharmed, NeverWrong}
 
 module _ {S : Type 0} {p : Parts} {m : Meaning S} (laws : Laws p m) (τ : Typing S) (stable : Stable p m τ) where
   -- the configuration stands at an instruction with a state that describes it

@@ -1,5 +1,5 @@
 -- The meaning of an analysis whose states are kept in another form: S is the form, A the states themselves.
-use Rattle.std.specs.Prelude.{ℕ, Some, None, Ok, Err, Option, Result}
+use Rattle.std.specs.Prelude.{Some, None, Ok, Err, Option, Result}
 use Rattle.analysis_theory.specs.declared.fault.Fault.{Fault}
 use Rattle.analysis_theory.specs.declared.fault.Unreadable.{Unreadable}
 use Rattle.analysis_theory.specs.Meaning.{Meaning, Got}

@@ -2,7 +2,7 @@
 use Rattle.std.specs.Prelude.{◌≡◌, ℕ, ◌<◌, true, false, length, Some, None, Option, ◌≢◌}
 use Rattle.format.specs.Parts.{Parts}
 use Rattle.machine.specs.Values.{Vessel}
-use Rattle.machine.specs.Configuration.{Configuration, Outcome}
+use Rattle.machine.specs.Configuration.{Outcome}
 use Rattle.machine.specs.Runs.{Announced, start, steps}
 use Rattle.machine.specs.Ways.{Leads, Expects}
 use Rattle.analysis_theory.specs.Meaning.{Meaning}

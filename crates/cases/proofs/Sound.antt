@@ -1,5 +1,5 @@
 -- A claim whose test passes holds.
-use Rattle.std.proofs.Common.{◌≡◌, ℕ, zero, suc, ◌+◌, ◌-◌, ◌<◌, ◌≤◌, Bool, true, false, cond, ◌&&◌, ◌||◌, eqb, ltb, ◌⊎◌, List, [], ◌∷◌, length, ℤ, pos, negsuc, is_ok, Some, None, Ok, Err, Option, Result, sym, refl, ap, ◌∙◌, subst, inl, inr, ⊎_elim, arith}
+use Rattle.std.proofs.Common.{◌≡◌, ℕ, zero, suc, ◌+◌, ◌-◌, ◌<◌, Bool, true, false, cond, ◌&&◌, ◌||◌, eqb, ltb, List, [], ◌∷◌, length, ℤ, pos, negsuc, is_ok, Some, None, Ok, Err, Option, Result, sym, refl, ap, ◌∙◌, subst, inl, inr, ⊎_elim, arith}
 use Rattle.std.proofs.lemmas.Bool.{and_parts, or_cases, eqb-true, eqb-false, ltb-true, ltb-false, true≢false, false≢true}
 use Rattle.kinds.specs.declared.kind.Kind.{Kind}
 use Rattle.kinds.specs.declared.kind.Kind.TheVariants.{Int, Null, Unusable, Class}
@@ -11,9 +11,9 @@ use Rattle.format.specs.Encoding.{encode}
 use Rattle.format.specs.Reading.{reading}
 use Rattle.format.specs.Refusals.{read_refusal}
 use Rattle.format.proofs.Ranges.{up_to_at}
-use Rattle.lattice.specs.Order.{Below, same, unusable, null, Least}
+use Rattle.lattice.specs.Order.{same, Least}
 use Rattle.lattice.specs.Order.{Lower}
-use Rattle.lattice.proofs.Plain.{below_equal, least_above, least_swap, int_least, mixed_least, null_least, unusable_least}
+use Rattle.lattice.proofs.Plain.{below_equal, least_above, least_swap, int_least, null_least, unusable_least}
 use Rattle.lattice.proofs.Joins.{climb_least, lone_least}
 use Rattle.machine.specs.Configuration.{Configuration, Outcome, goes, returned, stopped, fault}
 use Rattle.machine.specs.Runs.{start, steps}

@@ -1,5 +1,5 @@
 -- An accepting walk holds a stable typing.
-use Rattle.std.proofs.Common.{◌≡◌, ℕ, zero, suc, ◌+◌, ◌<◌, ◌≤◌, Bool, true, false, cond, ltb, ◌⊎◌, length, Some, None, Ok, Err, Option, Result, sym, refl, ap, ◌∙◌, subst, inl, inr, ⊎_elim, arith, ltb-true, lt-ltb}
+use Rattle.std.proofs.Common.{◌≡◌, ℕ, zero, suc, ◌+◌, ◌<◌, ◌≤◌, Bool, true, false, cond, ltb, length, Some, None, Ok, Err, Option, Result, sym, refl, ap, ◌∙◌, subst, arith, ltb-true, lt-ltb}
 use Rattle.opcodes.specs.TableRule.{jumps}
 use Rattle.format.specs.Parts.{Parts, instruction_of}
 use Rattle.machine.specs.Ways.{Leads, next, jump, passes}
@@ -8,7 +8,7 @@ use Rattle.analysis_theory.specs.Meaning.{Meaning}
 use Rattle.analysis_theory.specs.Laws.{Laws, Accepts}
 use Rattle.analysis_theory.specs.Typing.{Typing, HoldsAbove, Starts, rule, Stable}
 use Rattle.flow_theory.specs.declared.flow.FlowFault.{FlowFault}
-use Rattle.flow_theory.specs.declared.flow.FlowFault.TheVariants.{NotBelow, Effect, NoEntry, Leaves}
+use Rattle.flow_theory.specs.declared.flow.FlowFault.TheVariants.{NotBelow, Leaves}
 use Rattle.flow_theory.specs.Walk.{sender_of, ways_at, holds, arrives, jump_to, jumped, onward, and_then, visited, passed_over, turn, after_turn, walk_from, walk}
 use Rattle.flow_theory.specs.Held.{or_nothing, arriving, held}
 

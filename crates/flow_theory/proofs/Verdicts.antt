@@ -1,5 +1,5 @@
 -- What is accepted can't go wrong.
-use Rattle.std.proofs.Common.{◌≡◌, ℕ, ◌+◌, ◌<◌, ◌≤◌, Bool, true, false, cond, eqb, List, [], ◌∷◌, length, Some, None, Ok, Err, Option, Result, sym, refl, ap, ◌∙◌, subst, arith, eqb-true}
+use Rattle.std.proofs.Common.{◌≡◌, ℕ, ◌+◌, ◌<◌, Bool, true, false, cond, eqb, List, [], ◌∷◌, length, Some, Ok, Err, Result, refl, subst, arith, eqb-true}
 use Rattle.format.specs.Bytes.{AllBytes}
 use Rattle.format.specs.Parts.{Parts}
 use Rattle.format.specs.Rules.{Keeps}
@@ -11,8 +11,7 @@ use Rattle.flow_theory.specs.declared.certificate.CertificateError.{CertificateE
 use Rattle.flow_theory.specs.declared.certificate.Entry.{Entry}
 use Rattle.flow_theory.specs.declared.flow.FlowFault.{FlowFault}
 use Rattle.flow_theory.specs.declared.check.CheckError.{CheckError}
-use Rattle.flow_theory.specs.declared.check.CheckError.TheVariants.{Certificate, Flow}
-use Rattle.flow_theory.specs.Certificate.{Rising, none, more, entries_in, entry_at}
+use Rattle.flow_theory.specs.Certificate.{Rising, more, entries_in, entry_at}
 use Rattle.flow_theory.specs.Walk.{walk}
 use Rattle.flow_theory.specs.Held.{held}
 use Rattle.flow_theory.specs.Checking.{flowing, judged, verdict, YesIsSafe}

@@ -1,5 +1,5 @@
 -- The entries of a stable typing are accepted: what the walk holds stays below the typing.
-use Rattle.std.proofs.Common.{◌≡◌, ℕ, zero, suc, ◌+◌, ◌<◌, ◌≤◌, Bool, true, false, cond, ◌&&◌, ◌||◌, eqb, ltb, length, is_some, Some, None, Ok, Err, Option, Result, sym, refl, ap, ◌∙◌, subst, ⊎_elim, arith, lt-ltb, eq-eqb}
+use Rattle.std.proofs.Common.{◌≡◌, ℕ, zero, suc, ◌+◌, ◌<◌, Bool, true, false, cond, ◌&&◌, eqb, ltb, length, is_some, Some, None, Ok, Err, Option, Result, sym, refl, ap, ◌∙◌, subst, ⊎_elim, arith, lt-ltb, eq-eqb}
 use Rattle.std.proofs.lemmas.Bool.{and_from, or_left, or_right, cases_eq}
 use Rattle.opcodes.specs.TableRule.{jumps}
 use Rattle.format.specs.Parts.{Parts, instruction_of}
@@ -7,9 +7,9 @@ use Rattle.machine.specs.Ways.{Leads, next, jump, passes}
 use Rattle.analysis_theory.specs.declared.fault.Fault.{Fault}
 use Rattle.analysis_theory.specs.Meaning.{Meaning}
 use Rattle.analysis_theory.specs.Laws.{Laws, Accepts}
-use Rattle.analysis_theory.specs.Typing.{Typing, HoldsAbove, Starts, rule, Stable}
+use Rattle.analysis_theory.specs.Typing.{Typing, HoldsAbove, rule, Stable}
 use Rattle.flow_theory.specs.declared.flow.FlowFault.{FlowFault}
-use Rattle.flow_theory.specs.declared.flow.FlowFault.TheVariants.{NotBelow, Effect, NoEntry, Leaves}
+use Rattle.flow_theory.specs.declared.flow.FlowFault.TheVariants.{NotBelow, Leaves}
 use Rattle.flow_theory.specs.Walk.{sender_of, ways_at, holds, arrives, jump_to, jumped, onward, and_then, visited, passed_over, turn, after_turn, walk_from, walk}
 use Rattle.flow_theory.specs.Held.{targeted, entries_of}
 

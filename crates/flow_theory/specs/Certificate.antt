@@ -1,6 +1,6 @@
 -- The certificate's format: field 11 (hexadecimal) with the instruction count, then fields 12, each with an instruction number and a
 -- state, in rising order of the numbers. A field is a one-byte tag, a two-byte length and that many bytes.
-use Rattle.std.specs.Prelude.{◌≡◌, ℕ, zero, suc, ◌+◌, ◌-◌, ◌<◌, ◌≤◌, Bool, true, cond, ◌&&◌, List, [], ◌∷◌, ◌++◌, length, Some, None, Ok, Err, Option, Result, ◌==◌, nat_le, nat_lt}
+use Rattle.std.specs.Prelude.{◌≡◌, ℕ, zero, suc, ◌+◌, ◌-◌, ◌<◌, ◌≤◌, Bool, true, cond, ◌&&◌, List, [], ◌∷◌, ◌++◌, length, Some, None, Ok, Err, Result, ◌==◌, nat_le, nat_lt}
 use Rattle.format.specs.Bytes.{byte_at, word_at, word, slice}
 use Rattle.format.specs.Parts.{Parts}
 use Rattle.analysis_theory.specs.declared.fault.Unreadable.{Unreadable}

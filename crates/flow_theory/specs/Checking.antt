@@ -1,13 +1,13 @@
 -- The verdict on a certificate: its entries are read, and the walk is made with them.
-use Rattle.std.specs.Prelude.{◌≡◌, ℕ, List, Ok, Err, Result}
+use Rattle.std.specs.Prelude.{ℕ, List, Ok, Err, Result}
 use Rattle.format.specs.Parts.{Parts}
 use Rattle.analysis_theory.specs.Meaning.{Meaning}
-use Rattle.analysis_theory.specs.Typing.{Typing, Stable, NeverWrong}
+use Rattle.analysis_theory.specs.Typing.{NeverWrong}
 use Rattle.flow_theory.specs.declared.certificate.CertificateError.{CertificateError}
 use Rattle.flow_theory.specs.declared.certificate.Entry.{Entry}
 use Rattle.flow_theory.specs.declared.flow.FlowFault.{FlowFault}
 use Rattle.flow_theory.specs.declared.check.CheckError.{CheckError}
-use Rattle.flow_theory.specs.declared.check.CheckError.TheVariants.{Sizes, Certificate, Flow}
+use Rattle.flow_theory.specs.declared.check.CheckError.TheVariants.{Certificate, Flow}
 use Rattle.flow_theory.specs.Certificate.{entries_in, entry_at}
 use Rattle.flow_theory.specs.Walk.{walk}
 

@@ -1,5 +1,5 @@
 -- The typing that a walk holds, and the entries that are written from a typing.
-use Rattle.std.specs.Prelude.{◌≡◌, ℕ, zero, suc, ◌<◌, Bool, true, false, cond, ◌&&◌, ◌||◌, length, is_some, Some, None, Ok, Err, Option, Result, ◌==◌, nat_lt}
+use Rattle.std.specs.Prelude.{ℕ, zero, suc, Bool, false, cond, ◌&&◌, ◌||◌, length, is_some, Some, None, Ok, Err, Option, Result, ◌==◌, nat_lt}
 use Rattle.opcodes.specs.TableRule.{jumps}
 use Rattle.format.specs.Parts.{Parts, instruction_of}
 use Rattle.analysis_theory.specs.Meaning.{Meaning}

@@ -2,11 +2,9 @@
 -- is the byte at which the field starts.
 use Rattle.std.specs.Prelude.{ℕ}
 use Rattle.format.specs.declared.refusal.Refusal.{Refusal}
-use Rattle.analysis_theory.specs.declared.fault.Fault.{Fault}
 use Rattle.analysis_theory.specs.Faults.{fault_number, fault_detail}
 use Rattle.flow_theory.specs.declared.certificate.CertificateError.{CertificateError}
 use Rattle.flow_theory.specs.declared.certificate.CertificateError.TheVariants.{Framing, Number, State}
-use Rattle.flow_theory.specs.declared.flow.Located.{Located}
 use Rattle.flow_theory.specs.declared.flow.FlowFault.{FlowFault}
 use Rattle.flow_theory.specs.declared.flow.FlowFault.TheVariants.{NotBelow, Effect, NoEntry, Leaves}
 use Rattle.flow_theory.specs.declared.check.CheckError.{CheckError}

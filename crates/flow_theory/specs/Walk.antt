@@ -1,6 +1,6 @@
 -- The walk: upward from instruction 0, where the start arrives, with an entry for some instructions. An instruction holds its
 -- entry if it has one, else what arrives, else nothing, and is then passed over.
-use Rattle.std.specs.Prelude.{ℕ, zero, suc, ◌+◌, ◌-◌, Bool, true, cond, length, Some, None, Ok, Err, Option, Result, nat_lt}
+use Rattle.std.specs.Prelude.{ℕ, zero, suc, ◌+◌, Bool, true, cond, length, Some, None, Ok, Err, Option, Result, nat_lt}
 use Rattle.opcodes.specs.declared.opcode.Ways.{Ways}
 use Rattle.opcodes.specs.Table.{line_of}
 use Rattle.opcodes.specs.TableRule.{jumps}

@@ -1,12 +1,12 @@
 -- What every read unit's layout keeps: its tables lie within the bytes, and the rules that later code leans on.
-use Rattle.std.proofs.Common.{◌≡◌, ℕ, ◌+◌, ◌-◌, ◌*◌, ◌/◌, ◌%◌, ◌<◌, ◌≤◌, Bool, true, false, cond, ◌&&◌, eqb, ltb, leb, List, length, sym, refl, ap, ◌∙◌, subst, arith}
+use Rattle.std.proofs.Common.{◌≡◌, ℕ, ◌+◌, ◌-◌, ◌*◌, ◌/◌, ◌%◌, ◌<◌, ◌≤◌, true, false, ◌&&◌, eqb, ltb, leb, List, length, sym, ◌∙◌, subst, arith}
 use native.Mathlib.Nat.{mul-div-le}
 use Rattle.std.proofs.lemmas.Bool.{and_parts, leb-true, ltb-true, eqb-true, ne_eqb, cond-false}
 use Rattle.format.specs.declared.layout.Layout.{Layout}
 use Rattle.format.specs.declared.layout.Span.{Span}
 use Rattle.format.specs.Bytes.{byte_at, word_at, up_to}
 use Rattle.format.specs.Tests.{count_at, field_readable, descends, class_readable, instruction_readable}
-use Rattle.format.specs.Reading.{framed_at, field_end, places_of, Framed, sized, head_reads, reading, spread, layout_numbers}
+use Rattle.format.specs.Reading.{framed_at, field_end, places_of, Framed, sized, reading, spread, layout_numbers}
 use Rattle.format.specs.Stages.{layout_in, FramePasses, Passes}
 use Rattle.format.proofs.Passing.{kept_passes}
 use Rattle.format.proofs.Sizes.{whole_records, some_records}

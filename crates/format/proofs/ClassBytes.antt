@@ -1,12 +1,11 @@
 -- The 19 bytes of a class are those of the class that they say exactly if its unused field kinds are 0000.
-use Rattle.std.proofs.Common.{◌≡◌, ℕ, zero, suc, ◌+◌, ◌-◌, ◌*◌, ◌/◌, ◌%◌, ◌<◌, ◌≤◌, ◌⊎◌, List, [], ◌∷◌, ◌++◌, length, get_or, replicate, sym, refl, ap, ◌∙◌, subst, inl, inr, ⊎_elim, arith}
+use Rattle.std.proofs.Common.{◌≡◌, ℕ, suc, ◌+◌, ◌-◌, ◌*◌, ◌/◌, ◌%◌, ◌<◌, ◌≤◌, List, ◌∷◌, ◌++◌, length, replicate, sym, refl, ap, ◌∙◌, ⊎_elim, arith}
 use Rattle.std.specs.List.{flat_map, range_with_len}
 use Rattle.std.proofs.lemmas.Bool.{cases_eq, cases_lt}
 use Rattle.std.proofs.lemmas.List.{get_or-append_right, get_or-replicate, get_or_past, length-replicate}
 use Rattle.kinds.specs.declared.kind.Kind.{Kind}
 use Rattle.kinds.specs.declared.kind.Kind.TheVariants.{Int}
-use Rattle.format.specs.Bytes.{AllBytes, byte_at, word_at, word, slice, tabulate}
-use Rattle.format.specs.Parts.{ClassParts}
+use Rattle.format.specs.Bytes.{AllBytes, byte_at, word_at, slice, tabulate}
 use Rattle.format.specs.Encoding.{kind_bytes, class_bytes}
 use Rattle.format.specs.Decoding.{kind_at, class_at}
 use Rattle.format.specs.Tests.{count_at, code_at}

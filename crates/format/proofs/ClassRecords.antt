@@ -1,14 +1,13 @@
 -- A class passes its test exactly if it is right.
-use Rattle.std.proofs.Common.{◌≡◌, ℕ, zero, suc, ◌+◌, ◌-◌, ◌*◌, ◌<◌, ◌≤◌, Bool, true, false, cond, ◌&&◌, eqb, ltb, leb, ◌⊎◌, List, [], ◌∷◌, length, get_or, Decides, sym, refl, ap, ◌∙◌, subst, inl, inr, ⊎_elim, arith}
+use Rattle.std.proofs.Common.{◌≡◌, ℕ, ◌+◌, ◌*◌, ◌<◌, ◌≤◌, true, ◌&&◌, eqb, ltb, leb, List, length, Decides, sym, ap, ◌∙◌, ⊎_elim, arith}
 use Rattle.std.proofs.lemmas.Bool.{and_parts, and_from, cond-true, cond-false, eqb-true, eq-eqb, ne_eqb, ltb-true, lt-ltb, le-ltb, leb-true, le-leb, cases_eq, cases_lt}
-use Rattle.kinds.specs.declared.kind.Kind.{Kind}
 use Rattle.kinds.specs.Codes.{kind_of, kind_code}
 use Rattle.format.specs.declared.layout.Layout.{Layout}
-use Rattle.format.specs.Bytes.{AllBytes, byte_at, word_at, slice, up_to}
-use Rattle.format.specs.Parts.{ClassParts, Parts, class_of, parent_of, field_count, field_of}
+use Rattle.format.specs.Bytes.{AllBytes, word_at, up_to}
+use Rattle.format.specs.Parts.{ClassParts, Parts, parent_of, field_count, field_of}
 use Rattle.format.specs.Encoding.{class_bytes}
 use Rattle.format.specs.Rules.{Storable, ClassRule}
-use Rattle.format.specs.Decoding.{class_at, parts_at}
+use Rattle.format.specs.Decoding.{parts_at}
 use Rattle.format.specs.Tests.{storable, count_at, code_at, field_readable, extends, descends, class_readable}
 use Rattle.format.specs.Right.{ClassRight}
 use Rattle.format.proofs.Ranges.{up_to_all, up_to_at}

@@ -1,7 +1,7 @@
 -- An instruction passes its test exactly if it is right.
-use Rattle.std.proofs.Common.{◌≡◌, ℕ, suc, ◌+◌, ◌*◌, ◌/◌, ◌%◌, ◌<◌, ◌≤◌, Bool, true, false, cond, ◌&&◌, eqb, ltb, List, [], ◌∷◌, length, Decides, sym, refl, ap, ◌∙◌, subst, arith}
-use Rattle.std.proofs.lemmas.Bool.{and_parts, and_from, ltb-true, lt-ltb, eqb-true, eq-eqb}
-use Rattle.std.proofs.lemmas.Bool.Decides.{Decides-eqb, Decides-ltb}
+use Rattle.std.proofs.Common.{◌≡◌, ℕ, ◌+◌, ◌*◌, ◌/◌, ◌%◌, ◌<◌, ◌≤◌, ltb, List, [], ◌∷◌, length, Decides, sym, refl, ap, ◌∙◌, subst, arith}
+use Rattle.std.proofs.lemmas.Bool.{and_parts, and_from, ltb-true, lt-ltb}
+use Rattle.std.proofs.lemmas.Bool.Decides.{Decides-eqb}
 use Rattle.opcodes.specs.declared.opcode.Instruction.{Instruction}
 use Rattle.opcodes.specs.declared.opcode.Sort.{Sort}
 use Rattle.opcodes.specs.declared.opcode.Sort.TheVariants.{Unused, Number, Slot, Class, Field, Target}
@@ -9,14 +9,14 @@ use Rattle.opcodes.specs.Numbers.{opcode_number}
 use Rattle.opcodes.specs.Table.{Line, line_at, line_of, opcode_at}
 use Rattle.opcodes.proofs.TableRules.{number_at, number_below}
 use Rattle.format.specs.declared.layout.Layout.{Layout}
-use Rattle.format.specs.Bytes.{AllBytes, byte_at, word_at, word, slice}
-use Rattle.format.specs.Parts.{Parts, instruction_of, field_count}
+use Rattle.format.specs.Bytes.{AllBytes, byte_at, word_at}
+use Rattle.format.specs.Parts.{Parts, instruction_of}
 use Rattle.format.specs.Encoding.{instruction_bytes}
-use Rattle.format.specs.Rules.{Names, CodeRule}
+use Rattle.format.specs.Rules.{Names}
 use Rattle.format.specs.Decoding.{instruction_at, parts_at}
 use Rattle.format.specs.Tests.{count_at, names_test, instruction_readable}
 use Rattle.format.specs.Right.{CodeRight}
-use Rattle.format.proofs.Slices.{slice_cons, slice_at}
+use Rattle.format.proofs.Slices.{slice_at}
 use Rattle.format.proofs.Words.{word_of}
 use Rattle.format.proofs.Views.{class_count, slot_count, code_count, field_count_view, instruction_view}
 use Rattle.format.proofs.Framing.{three}

@@ -1,18 +1,18 @@
 -- Bytes that are the encoding of parts that keep the rules are right in every piece, and say those parts.
-use Rattle.std.proofs.Common.{◌≡◌, ℕ, ◌+◌, ◌-◌, ◌*◌, ◌/◌, ◌<◌, ◌≤◌, List, [], ◌∷◌, ◌++◌, length, get_or, take, drop, sym, refl, ap, ◌∙◌, subst, mul-le-mul_left, mul-suc, arith}
+use Rattle.std.proofs.Common.{◌≡◌, ℕ, ◌+◌, ◌*◌, ◌/◌, ◌<◌, ◌≤◌, List, [], ◌++◌, length, get_or, take, sym, refl, ap, ◌∙◌, subst, mul-le-mul_left, mul-suc, arith}
 use Rattle.std.specs.List.{flat_map}
 use Rattle.std.proofs.lemmas.List.{append_assoc, append-nil, length-append, drop_at, take_at, ext_get_or}
 use Rattle.kinds.specs.declared.kind.Kind.{Kind}
 use Rattle.kinds.specs.declared.kind.Kind.TheVariants.{Int}
 use Rattle.opcodes.specs.declared.opcode.Instruction.{Instruction}
-use Rattle.format.specs.Bytes.{AllBytes, byte_at, word_at, slice, tabulate}
+use Rattle.format.specs.Bytes.{AllBytes, byte_at, slice, tabulate}
 use Rattle.format.specs.Parts.{ClassParts, Parts, no_class, no_instruction, class_of, slot_of, instruction_of}
 use Rattle.format.specs.Encoding.{field, head_bytes, class_bytes, kind_bytes, instruction_bytes, encode}
 use Rattle.format.specs.Rules.{ClassRule, SlotRule, CodeRule, Keeps}
 use Rattle.format.specs.Decoding.{class_at, kind_at, instruction_at}
 use Rattle.format.specs.Reading.{field_end, places_of, body_length}
-use Rattle.format.specs.Stages.{layout_in, FramePasses, Passes}
-use Rattle.format.specs.Right.{FieldAt, FrameRight, said, HeadRight, Sized, ClassRight, SlotRight, CodeRight, ClassesRight, SlotsRight, CodeIsRight}
+use Rattle.format.specs.Stages.{layout_in, Passes}
+use Rattle.format.specs.Right.{FieldAt, FrameRight, said, HeadRight, Sized, ClassesRight, SlotsRight, CodeIsRight}
 use Rattle.format.specs.Meaning.{Encodes}
 use Rattle.format.proofs.Slices.{slice_at, slice_slice, chunk_at, length_joined}
 use Rattle.format.proofs.Words.{kind_of_code}

@@ -1,5 +1,5 @@
 -- Bytes that are the encoding of a record say that record.
-use Rattle.std.proofs.Common.{◌≡◌, ℕ, zero, suc, ◌+◌, ◌-◌, ◌*◌, ◌<◌, ◌≤◌, List, [], ◌∷◌, ◌++◌, length, get_or, take, drop, replicate, sym, refl, ap, ◌∙◌, subst, arith}
+use Rattle.std.proofs.Common.{◌≡◌, ℕ, suc, ◌+◌, ◌-◌, ◌*◌, ◌<◌, ◌≤◌, List, ◌++◌, length, get_or, take, drop, replicate, sym, refl, ap, ◌∙◌, arith}
 use Rattle.std.specs.List.{flat_map}
 use Rattle.std.proofs.lemmas.List.{drop-append-le, take-append-le, length-drop, length-append, length-replicate, ext_get_or}
 use Rattle.kinds.specs.declared.kind.Kind.{Kind}
@@ -10,7 +10,7 @@ use Rattle.opcodes.specs.declared.opcode.Opcode.{Opcode}
 use Rattle.opcodes.specs.Numbers.{opcode_number}
 use Rattle.opcodes.specs.Table.{opcode_at}
 use Rattle.opcodes.proofs.TableRules.{at_number}
-use Rattle.format.specs.Bytes.{byte_at, word_at, word, slice, tabulate}
+use Rattle.format.specs.Bytes.{byte_at, word_at, slice, tabulate}
 use Rattle.format.specs.Parts.{ClassParts}
 use Rattle.format.specs.Encoding.{class_bytes, kind_bytes, instruction_bytes}
 use Rattle.format.specs.Decoding.{kind_at, class_at, instruction_at}

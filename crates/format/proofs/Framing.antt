@@ -1,13 +1,12 @@
 -- A field stands whole at a place exactly if the framing test passes there.
-use Rattle.std.proofs.Common.{◌≡◌, ℕ, zero, suc, ◌+◌, ◌-◌, ◌*◌, ◌/◌, ◌%◌, ◌<◌, ◌≤◌, Bool, true, false, cond, ◌&&◌, eqb, ltb, leb, List, [], ◌∷◌, ◌++◌, length, drop, sym, refl, ap, ◌∙◌, subst, arith}
+use Rattle.std.proofs.Common.{◌≡◌, ℕ, suc, ◌+◌, ◌/◌, ◌%◌, ◌≤◌, true, ◌&&◌, eqb, leb, List, [], ◌∷◌, ◌++◌, length, drop, sym, ap, ◌∙◌, arith}
 use Rattle.std.proofs.lemmas.Bool.{and_parts, and_from, leb-true, le-leb, eqb-true, eq-eqb}
-use Rattle.std.proofs.lemmas.List.{length-append}
 use Rattle.format.specs.Bytes.{AllBytes, byte_at, word_at, word, slice}
 use Rattle.format.specs.Encoding.{field}
 use Rattle.format.specs.Reading.{framed_at, field_end, places_of, body_length}
 use Rattle.format.specs.Stages.{FramePasses}
 use Rattle.format.specs.Right.{FieldAt, FrameRight}
-use Rattle.format.proofs.Slices.{slice_cons, slice_append, slice_at, length_slice, slice_within, slice_slice}
+use Rattle.format.proofs.Slices.{slice_cons, slice_at, length_slice, slice_within}
 use Rattle.format.proofs.Words.{word_of, number_of}
 
 pub record FramedParts (bs : List ℕ) (tag at : ℕ) : Type 0 where

@@ -1,13 +1,12 @@
 -- What a reading's answer means: the two halves that `read` promises.
-use Rattle.std.proofs.Common.{◌≡◌, ℕ, List, Ok, Err, Result, sym, refl, ap, ◌∙◌, subst, arith}
+use Rattle.std.proofs.Common.{◌≡◌, ℕ, List, Ok, Err, Result, sym, ◌∙◌, subst, arith}
 use Rattle.format.specs.declared.layout.Layout.{Layout}
 use Rattle.format.specs.declared.refusal.ReadError.{ReadError}
 use Rattle.format.specs.Bytes.{AllBytes}
-use Rattle.format.specs.Parts.{Parts}
 use Rattle.format.specs.Decoding.{parts_at}
 use Rattle.format.specs.Reading.{reading}
 use Rattle.format.specs.Stages.{layout_in}
-use Rattle.format.specs.Meaning.{Encodes, IsUnit, NoUnit, FirstWrong}
+use Rattle.format.specs.Meaning.{IsUnit, NoUnit, FirstWrong}
 use Rattle.format.proofs.Passing.{reading_passes, passes_reading}
 use Rattle.format.proofs.Sound.{passes_encodes}
 use Rattle.format.proofs.Complete.{encodes_passes}

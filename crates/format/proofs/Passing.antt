@@ -1,12 +1,12 @@
 -- Bytes are read exactly if every test passes.
-use Rattle.std.proofs.Common.{◌≡◌, ℕ, ◌+◌, ◌-◌, ◌*◌, ◌/◌, ◌%◌, ◌<◌, ◌≤◌, Bool, true, false, eqb, List, [], ◌∷◌, length, get_or, Some, None, Ok, Err, Result, sym, refl, ap, ◌∙◌, subst, arith}
+use Rattle.std.proofs.Common.{◌≡◌, ℕ, Bool, eqb, List, length, get_or, Ok, Err, Result, sym, ap, ◌∙◌, arith}
 use Rattle.std.proofs.lemmas.Bool.{eqb-true, eq-eqb}
 use Rattle.format.specs.declared.layout.Frame.{Frame}
 use Rattle.format.specs.declared.layout.Layout.{Layout}
 use Rattle.format.specs.declared.refusal.ReadError.{ReadError}
 use Rattle.format.specs.declared.refusal.ReadError.TheVariants.{Head, Class, Slot, Code}
 use Rattle.format.specs.Bytes.{first_failing}
-use Rattle.format.specs.Reading.{guard, unless, framed_at, places_of, read_frame, head_reads, read_table, layout_of, read_classes, read_slots, read_code, contents, reading, spread, layout_numbers}
+use Rattle.format.specs.Reading.{unless, framed_at, places_of, read_frame, head_reads, read_table, read_classes, read_slots, read_code, contents, reading, spread, layout_numbers}
 use Rattle.format.specs.Stages.{layout_in, FramePasses, TablePasses, Passes}
 use Rattle.format.proofs.Ranges.{first_none, first_none_at}
 use Rattle.format.proofs.Results.{guard_ok, guard_true, unless_ok, unless_none}

@@ -1,15 +1,15 @@
 -- A refusal names the first thing that is wrong.
-use Rattle.std.proofs.Common.{◌≡◌, ℕ, ◌+◌, ◌<◌, ◌≤◌, Bool, true, false, eqb, ◌⊎◌, List, length, Some, None, Ok, Err, Decides, Option, Result, sym, refl, ap, ◌∙◌, subst, inl, inr, ⊎_elim, arith}
+use Rattle.std.proofs.Common.{◌≡◌, ℕ, ◌<◌, ◌≤◌, Bool, true, false, eqb, ◌⊎◌, List, length, Some, None, Ok, Err, Decides, Option, Result, refl, subst, inl, inr, ⊎_elim, arith}
 use Rattle.std.proofs.lemmas.Bool.{eqb-true, eqb-false, both_ways}
 use Rattle.std.proofs.lemmas.Bool.Decides.{not_from_Decides}
 use Rattle.format.specs.declared.layout.Layout.{Layout}
 use Rattle.format.specs.declared.refusal.ReadError.{ReadError}
 use Rattle.format.specs.declared.refusal.ReadError.TheVariants.{Framing, Head, Class, Slot, Code}
 use Rattle.format.specs.Bytes.{AllBytes, first_failing}
-use Rattle.format.specs.Reading.{guard, unless, framed_at, field_end, places_of, read_frame, head_reads, read_table, classes_sized, slots_sized, code_sized, read_classes, read_slots, read_code, contents, reading}
-use Rattle.format.specs.Stages.{layout_in, FramePasses, TablePasses, ClassesPass, SlotsPass}
-use Rattle.format.specs.Right.{FieldAt, FieldsUpTo, none, more, FrameRight, HeadRight, ClassRight, SlotRight, CodeRight, TableRight, ClassesSize, SlotsSize, CodeSize}
-use Rattle.format.specs.Meaning.{FramingWrong, RecordWrong, FirstWrong}
+use Rattle.format.specs.Reading.{guard, unless, framed_at, places_of, read_frame, head_reads, read_table, classes_sized, slots_sized, code_sized, contents, reading}
+use Rattle.format.specs.Stages.{layout_in, FramePasses, TablePasses}
+use Rattle.format.specs.Right.{FieldAt, FieldsUpTo, none, more, FrameRight, ClassRight, SlotRight, CodeRight, ClassesSize, SlotsSize, CodeSize}
+use Rattle.format.specs.Meaning.{RecordWrong, FirstWrong}
 use Rattle.format.proofs.Ranges.{First, first_none_at, first_some_at}
 use Rattle.format.proofs.Framing.{framed_parts, framed_stands, stands_framed, frame_right}
 use Rattle.format.proofs.Sizes.{head_right, right_head}

@@ -1,11 +1,11 @@
 -- Each stage of a reading passes exactly if what it looks at is right.
-use Rattle.std.proofs.Common.{◌≡◌, ℕ, ◌+◌, ◌-◌, ◌*◌, ◌/◌, ◌<◌, ◌≤◌, Bool, true, false, List, length, Decides, sym, refl, ap, ◌∙◌, subst, arith}
+use Rattle.std.proofs.Common.{ℕ, ◌<◌, ◌≤◌, Bool, List, length, Decides, arith}
 use native.Mathlib.Nat.{mul-div-le}
 use Rattle.format.specs.Bytes.{AllBytes}
 use Rattle.format.specs.Tests.{class_readable, slot_readable, instruction_readable}
-use Rattle.format.specs.Reading.{places_of, Framed, sized, body_length, classes_sized, slots_sized, code_sized}
+use Rattle.format.specs.Reading.{places_of, Framed, sized, body_length}
 use Rattle.format.specs.Stages.{layout_in, FramePasses, TablePasses, ClassesPass, SlotsPass, CodePasses}
-use Rattle.format.specs.Right.{Sized, ClassRight, SlotRight, CodeRight, TableRight, ClassesSize, SlotsSize, CodeSize, ClassesRight, SlotsRight, CodeIsRight}
+use Rattle.format.specs.Right.{Sized, ClassRight, SlotRight, CodeRight, TableRight, ClassesSize, ClassesRight, SlotsRight, CodeIsRight}
 use Rattle.format.proofs.Bounds.{places_framed}
 use Rattle.format.proofs.Sizes.{sized_right, right_sized, right_count}
 use Rattle.format.proofs.ClassRecords.{class_decides}

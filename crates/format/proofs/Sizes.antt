@@ -1,9 +1,8 @@
 -- The tests of the head and of a table's size say what they should.
-use Rattle.std.proofs.Common.{◌≡◌, ℕ, zero, suc, ◌+◌, ◌-◌, ◌*◌, ◌/◌, ◌%◌, ◌<◌, ◌≤◌, Bool, true, false, cond, ◌&&◌, eqb, ltb, leb, ◌⊎◌, List, [], ◌∷◌, ◌++◌, length, sym, refl, ap, ◌∙◌, subst, inl, inr, ⊎_elim, mul-pos, mul-zero, arith}
+use Rattle.std.proofs.Common.{◌≡◌, ℕ, ◌*◌, ◌/◌, ◌%◌, ◌<◌, ◌≤◌, true, ◌&&◌, eqb, ltb, leb, List, [], ◌∷◌, length, sym, ap, ◌∙◌, ⊎_elim, mul-pos, mul-zero, arith}
 use native.Mathlib.Nat.{div-add-mod, mul-div_cancel_left, mul-mod_right}
 use Rattle.std.proofs.lemmas.Bool.{and_parts, and_from, leb-true, le-leb, ltb-true, lt-ltb, eqb-true, eq-eqb, cases_lt}
-use Rattle.format.specs.Bytes.{AllBytes, byte_at, word_at, word, slice}
-use Rattle.format.specs.Encoding.{head_bytes}
+use Rattle.format.specs.Bytes.{byte_at, slice}
 use Rattle.format.specs.Reading.{field_end, places_of, body_length, head_reads, sized}
 use Rattle.format.specs.Stages.{FramePasses}
 use Rattle.format.specs.Right.{HeadRight, Sized}

@@ -1,8 +1,8 @@
 -- Parts of a list of bytes: cut, joined again, and cut into records of one width.
-use Rattle.std.proofs.Common.{◌≡◌, ℕ, zero, suc, ◌+◌, ◌-◌, ◌*◌, ◌/◌, ◌%◌, ◌<◌, ◌≤◌, List, [], ◌∷◌, ◌++◌, map, length, get_or, take, drop, replicate, sym, refl, ap, ◌∙◌, subst, append_assoc, add-zero, add-suc, suc-add, mul-zero, zero-add, mul-one, mul-suc, mul-add, add-one, arith}
+use Rattle.std.proofs.Common.{◌≡◌, ℕ, zero, suc, ◌+◌, ◌-◌, ◌*◌, ◌<◌, ◌≤◌, List, [], ◌∷◌, ◌++◌, map, length, get_or, take, drop, replicate, sym, refl, ap, ◌∙◌, mul-zero, mul-one, mul-suc, mul-add, arith}
 use Rattle.std.specs.List.{flat_map, range_with_len}
-use Rattle.std.proofs.lemmas.List.{drop_more, drop-drop, drop-take, length-take, length-take-le, length-drop, get_or-take, get_or-drop, take_all, take-take, drop_at, take_at, take-append-drop, length-append, ext_get_or, length-replicate, get_or-replicate}
-use Rattle.format.specs.Bytes.{AllBytes, byte_at, word_at, word, slice, tabulate}
+use Rattle.std.proofs.lemmas.List.{drop_more, drop-drop, drop-take, length-take, length-take-le, length-drop, get_or-take, get_or-drop, take_all, take-take, drop_at, take_at, length-append, ext_get_or, length-replicate, get_or-replicate}
+use Rattle.format.specs.Bytes.{byte_at, slice}
 
 pub slice_cons : (bs : List ℕ) (at n : ℕ) → at < length bs → slice bs at (suc n) ≡ byte_at bs at ∷ slice bs (at + 1) n
 slice_cons bs at n h = rw (drop_more bs at 0 h)

@@ -1,8 +1,8 @@
 -- A slot passes its test exactly if it is right.
-use Rattle.std.proofs.Common.{◌≡◌, ℕ, suc, ◌+◌, ◌*◌, ◌<◌, ◌≤◌, Bool, true, false, cond, eqb, ltb, ◌⊎◌, List, [], ◌∷◌, length, Decides, sym, refl, ap, ◌∙◌, subst, inl, inr, ⊎_elim, arith}
+use Rattle.std.proofs.Common.{◌≡◌, ℕ, ◌+◌, ◌*◌, ◌<◌, ◌≤◌, eqb, ltb, List, ◌∷◌, length, Decides, sym, ap, ◌∙◌, subst, ⊎_elim, arith}
 use Rattle.std.proofs.lemmas.Bool.{cond-true, cond-false, eq-eqb, ne_eqb, cases_eq}
 use Rattle.kinds.specs.declared.kind.Kind.{Kind}
-use Rattle.kinds.specs.Codes.{kind_of, kind_code}
+use Rattle.kinds.specs.Codes.{kind_of}
 use Rattle.format.specs.declared.layout.Layout.{Layout}
 use Rattle.format.specs.Bytes.{AllBytes, byte_at, word_at, word, slice}
 use Rattle.format.specs.Parts.{slot_of}

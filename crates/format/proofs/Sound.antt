@@ -1,21 +1,20 @@
 -- Bytes that are right in every piece are the encoding of what they say, and that keeps the rules.
-use Rattle.std.proofs.Common.{◌≡◌, ℕ, ◌+◌, ◌-◌, ◌*◌, ◌/◌, ◌<◌, ◌≤◌, List, [], ◌∷◌, ◌++◌, length, take, drop, sym, refl, ap, ◌∙◌, subst, arith}
+use Rattle.std.proofs.Common.{◌≡◌, ℕ, ◌+◌, ◌-◌, ◌*◌, ◌/◌, ◌<◌, ◌≤◌, List, ◌++◌, length, sym, ap, ◌∙◌, arith}
 use Rattle.std.specs.List.{flat_map, range_with_len}
 use Rattle.opcodes.specs.declared.opcode.Instruction.{Instruction}
-use Rattle.format.specs.Bytes.{AllBytes, byte_at, word_at, slice, tabulate}
-use Rattle.format.specs.Parts.{Parts, class_of, slot_of, instruction_of}
+use Rattle.format.specs.Bytes.{AllBytes, slice, tabulate}
 use Rattle.format.specs.Encoding.{field, head_bytes, class_bytes, kind_bytes, instruction_bytes, encode}
 use Rattle.format.specs.Rules.{Keeps}
 use Rattle.format.specs.Decoding.{class_at, kind_at, instruction_at}
 use Rattle.format.specs.Reading.{places_of, Framed, body_length}
-use Rattle.format.specs.Stages.{layout_in, FramePasses, Passes}
-use Rattle.format.specs.Right.{FieldAt, FrameRight, said, HeadRight, Sized, ClassesSize, ClassesRight, SlotsRight, CodeIsRight}
+use Rattle.format.specs.Stages.{layout_in, Passes}
+use Rattle.format.specs.Right.{FieldAt, FrameRight, said, HeadRight, Sized, ClassesRight, SlotsRight, CodeIsRight}
 use Rattle.format.specs.Meaning.{Encodes}
 use Rattle.format.proofs.Slices.{slice_append, slice_whole, chunks, joined_map}
 use Rattle.format.proofs.Words.{word_below}
 use Rattle.format.proofs.Views.{class_count, slot_count, code_count, class_view, slot_view, instruction_view}
 use Rattle.format.proofs.Framing.{field_body, frame_right, right_frame}
-use Rattle.format.proofs.Bounds.{places_framed, Bounds, passes_bounds}
+use Rattle.format.proofs.Bounds.{places_framed}
 use Rattle.format.proofs.Sizes.{right_count, head_right}
 use Rattle.format.proofs.Rightness.{classes_decide, slots_decide, code_decide}
 

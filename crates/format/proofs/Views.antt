@@ -1,10 +1,10 @@
 -- What stands at each place of the parts that bytes say.
-use Rattle.std.proofs.Common.{◌≡◌, ℕ, ◌+◌, ◌*◌, ◌<◌, ◌≤◌, ltb, List, length, get_or, Some, None, sym, refl, ap, ◌∙◌, arith}
+use Rattle.std.proofs.Common.{◌≡◌, ℕ, ◌+◌, ◌*◌, ◌<◌, ◌≤◌, ltb, List, length, get_or, Some, None, sym, ap, ◌∙◌, arith}
 use Rattle.std.proofs.lemmas.Bool.{cond-true, cond-false, lt-ltb, le-ltb}
 use Rattle.std.proofs.lemmas.List.FromFn.{length-map-range_with_len, get_or-map-range_with_len}
 use Rattle.kinds.specs.declared.kind.Kind.TheVariants.{Int}
 use Rattle.format.specs.declared.layout.Layout.{Layout}
-use Rattle.format.specs.Bytes.{byte_at, word_at, tabulate}
+use Rattle.format.specs.Bytes.{tabulate}
 use Rattle.format.specs.Parts.{within, ClassParts, no_class, no_instruction, class_of, parent_of, field_count, field_of, slot_of, instruction_of}
 use Rattle.format.specs.Decoding.{kind_at, class_at, instruction_at, parts_at}
 use Rattle.format.specs.Tests.{count_at}

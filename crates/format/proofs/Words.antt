@@ -1,10 +1,10 @@
 -- Two-byte numbers and the codes of kinds survive writing and reading.
-use Rattle.std.proofs.Common.{◌≡◌, ℕ, ◌+◌, ◌*◌, ◌/◌, ◌%◌, ◌<◌, ◌≤◌, Bool, true, false, cond, eqb, List, [], ◌∷◌, length, sym, refl, ap, ◌∙◌, arith}
-use Rattle.std.proofs.lemmas.Bool.{cond-true, cond-false, eq-eqb, ne_eqb, eqb-true}
+use Rattle.std.proofs.Common.{◌≡◌, ℕ, ◌+◌, ◌*◌, ◌/◌, ◌%◌, ◌<◌, ◌≤◌, Bool, true, false, cond, eqb, List, [], ◌∷◌, sym, refl, ap, ◌∙◌, arith}
+use Rattle.std.proofs.lemmas.Bool.{cond-false, ne_eqb, eqb-true}
 use Rattle.kinds.specs.declared.kind.Kind.{Kind}
 use Rattle.kinds.specs.declared.kind.Kind.TheVariants.{Int, Null, Unusable, Class}
 use Rattle.kinds.specs.Codes.{kind_of, kind_code}
-use Rattle.format.specs.Bytes.{AllBytes, byte_at, word_at, word, slice}
+use Rattle.format.specs.Bytes.{byte_at, word_at, word, slice}
 use Rattle.format.specs.Rules.{Storable}
 use Rattle.format.proofs.Slices.{slice_at}
 

@@ -1,5 +1,5 @@
 -- Bytes and two-byte numbers, the high byte first, and tests over a range of numbers.
-use Rattle.std.specs.Prelude.{ℕ, zero, suc, ◌+◌, ◌*◌, ◌/◌, ◌%◌, ◌<◌, Bool, true, false, cond, ◌&&◌, List, [], ◌∷◌, map, length, take, drop, Some, None, Option, slice_index}
+use Rattle.std.specs.Prelude.{ℕ, zero, suc, ◌+◌, ◌*◌, ◌/◌, ◌%◌, ◌<◌, Bool, true, cond, ◌&&◌, List, [], ◌∷◌, map, length, take, drop, Some, None, Option, slice_index}
 use Rattle.std.specs.List.{range_with_len}
 
 -- each number of the list is a byte

@@ -1,7 +1,7 @@
 -- What it means that a piece of a unit is right: it is the encoding of what it says, and that keeps its rule.
 use Rattle.std.specs.Prelude.{◌≡◌, ℕ, suc, ◌+◌, ◌*◌, ◌<◌, ◌≤◌, List, length}
 use Rattle.format.specs.declared.layout.Layout.{Layout}
-use Rattle.format.specs.Bytes.{byte_at, slice}
+use Rattle.format.specs.Bytes.{slice}
 use Rattle.format.specs.Parts.{Parts, class_of, slot_of, instruction_of}
 use Rattle.format.specs.Encoding.{field, head_bytes, class_bytes, kind_bytes, instruction_bytes}
 use Rattle.format.specs.Rules.{ClassRule, SlotRule, CodeRule}

@@ -5,7 +5,7 @@ use Rattle.kinds.specs.declared.kind.Kind.TheVariants.{Int, Null, Unusable, Clas
 use Rattle.opcodes.specs.declared.opcode.Sort.{Sort}
 use Rattle.opcodes.specs.declared.opcode.Sort.TheVariants.{Unused, Number, Slot, Class as ClassNumber, Field, Target}
 use Rattle.opcodes.specs.Table.{line_of}
-use Rattle.format.specs.Parts.{Parts, parent_of, fields_of, field_count, field_of, slot_of, instruction_of}
+use Rattle.format.specs.Parts.{Parts, parent_of, field_count, field_of, slot_of, instruction_of}
 
 -- what a slot or a field may hold: an int, or a class of so many
 abbrev pub Storable : ℕ → Kind → Type 0

@@ -1,5 +1,5 @@
 -- The rules of a unit as tests on its bytes, one for each record.
-use Rattle.std.specs.Prelude.{ℕ, ◌+◌, ◌*◌, ◌/◌, ◌%◌, Bool, true, false, cond, ◌&&◌, ◌||◌, List, ◌==◌, nat_eq, nat_le, nat_lt}
+use Rattle.std.specs.Prelude.{ℕ, ◌+◌, ◌*◌, ◌/◌, ◌%◌, Bool, true, cond, ◌&&◌, ◌||◌, List, ◌==◌, nat_eq, nat_le, nat_lt}
 use Rattle.opcodes.specs.declared.opcode.Sort.{Sort}
 use Rattle.opcodes.specs.declared.opcode.Sort.TheVariants.{Unused, Number, Slot, Class, Field, Target}
 use Rattle.opcodes.specs.Table.{line_at}

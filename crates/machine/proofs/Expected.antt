@@ -1,5 +1,5 @@
 -- What is expected of a step, from what is expected of the pieces that it is made of.
-use Rattle.std.proofs.Common.{◌≡◌, ℕ, ◌+◌, ◌≤◌, Bool, true, false, cond, leb, List, length, sym, subst, le-leb}
+use Rattle.std.proofs.Common.{ℕ, ◌+◌, ◌≤◌, Bool, true, false, cond, leb, List, length, sym, subst, le-leb}
 use Rattle.format.specs.Parts.{Parts}
 use Rattle.machine.specs.Values.{Value}
 use Rattle.machine.specs.Configuration.{Configuration, Outcome, goes, returned, stopped, fault}

@@ -1,6 +1,6 @@
 -- A step in outline: where it goes on, what it does to the slots and to the row, and which faults tell what. Of the operands
 -- and the objects it says nothing.
-use Rattle.std.proofs.Common.{◌≡◌, ℕ, zero, suc, ◌+◌, ◌%◌, ◌<◌, Bool, true, false, cond, eqb, ltb, leb, List, [], ◌∷◌, ◌++◌, length, get_or, set, ℤ, pos, ◌+ℤ◌, Some, None, Option, sym, refl, subst, arith, w16, w32, to_z, lt-ltb}
+use Rattle.std.proofs.Common.{◌≡◌, ℕ, zero, suc, ◌+◌, ◌%◌, ◌<◌, Bool, true, false, cond, eqb, leb, List, [], ◌∷◌, ◌++◌, length, get_or, set, ℤ, pos, ◌+ℤ◌, Some, None, Option, sym, refl, subst, arith, w16, w32, to_z, lt-ltb}
 use lib.Signed.{lt_z}
 use Rattle.std.specs.Int.{int_wrap}
 use Rattle.opcodes.specs.declared.opcode.Opcode.{Opcode}
@@ -10,7 +10,7 @@ use Rattle.opcodes.specs.Table.{line_of}
 use Rattle.opcodes.specs.TableRule.{jumps}
 use Rattle.format.specs.Parts.{Parts, instruction_of}
 use Rattle.machine.specs.Values.{Value, int, ref, Object}
-use Rattle.machine.specs.Configuration.{Configuration, Outcome, goes, returned, stopped, fault}
+use Rattle.machine.specs.Configuration.{Configuration, stopped, fault}
 use Rattle.machine.specs.Step.{Found, few, wrong, took, finds, does, acts, step, next, allowed, goes_at, loads, posts, ends, gets, puts, top, second, reference, number, is_zero, with_slot, with_objects, with_row, fresh, object_at}
 use Rattle.machine.specs.Ways.{Leads, passes, Expects}
 use Rattle.machine.proofs.Expected.{either_expected, allowed_expected, next_expected, weaker_expected}

@@ -1,7 +1,7 @@
 -- One step of the tagged machine, with every check in its order: fault 7 outside the code; fault 1 too few operands; fault 3
 -- an operand, from the top, that does not conform; fault 4 load of an unset slot; fault 5 post with a row held; fault 6 return
 -- with none held; the stops; fault 2 deeper than the head allows.
-use Rattle.std.specs.Prelude.{ℕ, zero, suc, ◌+◌, ◌/◌, ◌%◌, Bool, true, false, cond, ◌&&◌, List, [], ◌∷◌, ◌++◌, map, length, ℤ, pos, negsuc, ◌+ℤ◌, Some, None, Option, ◌==◌, int_lt, nat_le, nat_lt, slice_index_or, slice_set}
+use Rattle.std.specs.Prelude.{ℕ, zero, suc, ◌+◌, ◌/◌, ◌%◌, Bool, true, false, cond, List, [], ◌∷◌, ◌++◌, map, length, ℤ, pos, negsuc, ◌+ℤ◌, Some, None, Option, ◌==◌, int_lt, nat_le, nat_lt, slice_index_or, slice_set}
 use Rattle.std.proofs.Common.{to_z}
 use Rattle.std.specs.Int.{int_wrap, w16, w32}
 use Rattle.kinds.specs.declared.kind.Kind.{Kind}
@@ -14,7 +14,7 @@ use Rattle.opcodes.specs.declared.opcode.Takes.{Takes}
 use Rattle.opcodes.specs.declared.opcode.Takes.TheVariants.{Nothing, One, Two}
 use Rattle.opcodes.specs.Table.{line_of}
 use Rattle.format.specs.Parts.{Parts, fields_of, field_of, slot_of, instruction_of}
-use Rattle.machine.specs.Values.{Value, int, ref, Object, Vessel}
+use Rattle.machine.specs.Values.{Value, int, ref, Object}
 use Rattle.machine.specs.Conforming.{conforms, is_ref}
 use Rattle.machine.specs.Configuration.{Configuration, Outcome, goes, returned, stopped, fault}
 

@@ -1,7 +1,7 @@
 -- The rule that every line of the opcode table keeps, as a test that computes: the line stands at its instruction's
 -- number; what its number names is a target exactly where it has a jump way; and it speaks of a slot, a class or a field
 -- only where its number names one.
-use Rattle.std.specs.Prelude.{ℕ, zero, suc, Bool, true, false, not, ◌&&◌, ◌||◌, List, [], ◌∷◌, Some, None, Option, ◌==◌}
+use Rattle.std.specs.Prelude.{ℕ, suc, Bool, true, false, not, ◌&&◌, List, [], ◌∷◌, Some, None, Option, ◌==◌}
 use Rattle.opcodes.specs.declared.opcode.Shape.{Shape}
 use Rattle.opcodes.specs.declared.opcode.Shape.TheVariants.{Int, Null, Ref, Any, OfSlot, OfClass, OfOwner, OfField}
 use Rattle.opcodes.specs.declared.opcode.Takes.{Takes}

@@ -1,25 +1,18 @@
 -- What is accepted of a stack is accepted of every stack below, with a stack below after it; and the kinds stay known.
-use Rattle.std.proofs.Common.{◌≡◌, ℕ, ◌+◌, ◌/◌, ◌%◌, ◌<◌, ◌≤◌, Bool, true, false, cond, ◌&&◌, ltb, leb, List, [], ◌∷◌, length, Some, None, Ok, Err, Option, Result, sym, refl, ap, ◌∙◌, subst, arith, ltb-true, lt-ltb, leb-true}
-use Rattle.std.proofs.lemmas.Bool.{and_from, and_parts}
+use Rattle.std.proofs.Common.{◌≡◌, ℕ, Bool, true, false, cond, ltb, leb, List, length, Some, None, Ok, Err, Option, Result, sym, refl, subst, arith}
 use Rattle.kinds.specs.declared.kind.Kind.{Kind}
-use Rattle.kinds.specs.declared.kind.Kind.TheVariants.{Int, Null, Unusable, Class}
 use Rattle.opcodes.specs.declared.opcode.Shape.{Shape}
 use Rattle.opcodes.specs.declared.opcode.Shape.TheVariants.{Int as AnInt, Null as ANull, Ref as ARef, Any as AnyValue, OfSlot, OfClass, OfOwner, OfField}
 use Rattle.opcodes.specs.declared.opcode.Takes.{Takes}
 use Rattle.opcodes.specs.declared.opcode.Takes.TheVariants.{Nothing, One, Two}
-use Rattle.opcodes.specs.declared.opcode.Opcode.{Opcode}
-use Rattle.opcodes.specs.declared.opcode.Opcode.TheVariants.{Push, Nil, Load, Store, Drop, Add, Less, Jump, Branch, Brnull, New, Get, Put, Post, Return}
-use Rattle.opcodes.specs.declared.opcode.Instruction.{Instruction}
 use Rattle.opcodes.specs.Table.{line_of}
-use Rattle.format.specs.Parts.{Parts, slot_of, field_of, field_count, instruction_of}
-use Rattle.format.specs.Rules.{Keeps, Names, Storable}
+use Rattle.format.specs.Parts.{Parts, instruction_of}
 use Rattle.lattice.specs.Order.{Lower}
 use Rattle.lattice.specs.Computing.{lies}
 use Rattle.analysis_theory.specs.declared.fault.Cause.{Cause}
-use Rattle.analysis_theory.specs.declared.fault.Cause.TheVariants.{TooFew, TooDeep, Misfit, Outside}
-use Rattle.analysis_theory.specs.declared.fault.Fault.{Fault}
+use Rattle.analysis_theory.specs.declared.fault.Cause.TheVariants.{TooDeep, Misfit, Outside}
 use Rattle.analysis_theory.specs.Laws.{Accepts}
-use Rattle.types_theory.specs.Order.{known, all_known, all_below}
+use Rattle.types_theory.specs.Order.{all_below}
 use Rattle.types_theory.specs.Effect.{kind_of_shape, suits, taken, left, type_fault, shallow, then_leaves, effect_of, effect_made_at}
 use Rattle.types_theory.proofs.KindOrder.{lies_same, lies_further, reference_below}
 use Rattle.types_theory.proofs.Stacks.{StackBelow, none, more, is_below, below_is, below_length}

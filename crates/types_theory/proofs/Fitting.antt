@@ -1,10 +1,10 @@
 -- Values that fit kinds: they fit the kinds above, and still fit after objects were made or changed.
-use Rattle.std.proofs.Common.{◌≡◌, ℕ, zero, suc, ◌+◌, ◌/◌, ◌%◌, ◌<◌, ◌≤◌, Bool, true, false, List, [], ◌∷◌, length, get_or, ℤ, pos, sym, refl, ap, ◌∙◌, subst, arith}
+use Rattle.std.proofs.Common.{◌≡◌, ℕ, zero, suc, ◌<◌, ◌≤◌, true, false, List, length, get_or, pos, sym, refl, ◌∙◌, subst, arith}
 use Rattle.kinds.specs.declared.kind.Kind.{Kind}
 use Rattle.kinds.specs.declared.kind.Kind.TheVariants.{Int, Null, Unusable, Class}
 use Rattle.opcodes.specs.declared.opcode.Shape.{Shape}
 use Rattle.opcodes.specs.declared.opcode.Shape.TheVariants.{Int as AnInt, Null as ANull, Ref as ARef, Any as AnyValue, OfSlot, OfClass, OfOwner, OfField}
-use Rattle.format.specs.Parts.{Parts, parent_of, field_count, field_of, slot_of}
+use Rattle.format.specs.Parts.{Parts, parent_of, field_count, field_of}
 use Rattle.format.specs.Rules.{Keeps}
 use Rattle.lattice.specs.Order.{Ancestor, parent, further, Below, same, unusable, null, ancestor, Lower}
 use Rattle.lattice.specs.Computing.{lies, is_a}
@@ -13,7 +13,7 @@ use Rattle.lattice.proofs.Computed.{is_a_decides, lies_decides}
 use Rattle.machine.specs.Values.{Value, int, ref, Object}
 use Rattle.machine.specs.Conforming.{conforms, class_of_object, is_ref}
 use Rattle.machine.specs.Step.{meets}
-use Rattle.types_theory.specs.Effect.{is_reference, suits, kind_of_shape}
+use Rattle.types_theory.specs.Effect.{is_reference, suits}
 use Rattle.types_theory.specs.Description.{Leads-to, Fits, FitAll, none, more, ObjectFits}
 use Rattle.types_theory.proofs.Stacks.{StackBelow}
 

@@ -1,10 +1,10 @@
 -- The order of kinds as tests, and which kinds a unit has.
-use Rattle.std.proofs.Common.{◌≡◌, ℕ, ◌<◌, ◌≤◌, Bool, true, false, ltb, ◌⊎◌, length, sym, refl, subst, inl, inr, arith, ltb-true, lt-ltb}
+use Rattle.std.proofs.Common.{◌≡◌, ℕ, ◌<◌, true, ◌⊎◌, length, refl, arith, ltb-true, lt-ltb}
 use Rattle.kinds.specs.declared.kind.Kind.{Kind}
 use Rattle.kinds.specs.declared.kind.Kind.TheVariants.{Int, Null, Unusable, Class}
-use Rattle.format.specs.Parts.{Parts, parent_of}
-use Rattle.lattice.specs.Order.{Below, same, unusable, null, ancestor, Lower}
-use Rattle.lattice.specs.Computing.{lies, least_of, is_a}
+use Rattle.format.specs.Parts.{Parts}
+use Rattle.lattice.specs.Order.{Below, same, unusable, ancestor, Lower}
+use Rattle.lattice.specs.Computing.{lies, least_of}
 use Rattle.lattice.specs.Height.{kind_height}
 use Rattle.lattice.proofs.Ancestors.{ancestor_lower}
 use Rattle.lattice.proofs.Orders.{below_further, below_both}

@@ -1,5 +1,5 @@
 -- Objects that are made or changed, and slots that are set, still fit.
-use Rattle.std.proofs.Common.{◌≡◌, ℕ, zero, suc, ◌+◌, ◌<◌, ◌≤◌, Bool, true, false, ◌≢◌, List, [], ◌∷◌, ◌++◌, map, length, get_or, set, ℤ, pos, Some, None, Option, sym, refl, ap, ◌∙◌, subst, ⊎_elim, arith, length-append, length-set, get_or-set_other, get_or-set_same}
+use Rattle.std.proofs.Common.{◌≡◌, ℕ, zero, suc, ◌<◌, ◌≤◌, ◌≢◌, List, [], ◌∷◌, ◌++◌, map, length, get_or, set, pos, Some, None, Option, sym, refl, ap, ◌∙◌, subst, ⊎_elim, arith, length-append, length-set, get_or-set_other, get_or-set_same}
 use lib.ListN.{length-map}
 use lib.Seq.{get_or_at}
 use Rattle.std.proofs.lemmas.List.{get_or_append_left}
@@ -8,15 +8,11 @@ use Rattle.kinds.specs.declared.kind.Kind.{Kind}
 use Rattle.kinds.specs.declared.kind.Kind.TheVariants.{Int, Null, Unusable, Class}
 use Rattle.format.specs.Parts.{Parts, fields_of, field_count, field_of, slot_of}
 use Rattle.format.specs.Rules.{Keeps, Storable}
-use Rattle.lattice.specs.Order.{Lower}
-use Rattle.lattice.proofs.Orders.{keeps_lower}
-use Rattle.machine.specs.Values.{Value, int, ref, Object}
+use Rattle.machine.specs.Values.{Value, int, Object}
 use Rattle.machine.specs.Conforming.{class_of_object}
-use Rattle.machine.specs.Configuration.{Configuration}
 use Rattle.machine.specs.Step.{blank, fresh, object_at}
-use Rattle.types_theory.specs.Description.{Leads-to, Fits, FitAll, ObjectFits, Described}
-use Rattle.types_theory.proofs.KindOrder.{lies_same}
-use Rattle.types_theory.proofs.Fitting.{Grown, fits_grown, object_grown}
+use Rattle.types_theory.specs.Description.{Fits, ObjectFits}
+use Rattle.types_theory.proofs.Fitting.{Grown, object_grown}
 
 -- a field's first value fits its kind
 blank_fits : (p : Parts) (os : List Object) (k : Kind) (n : ℕ) → Storable n k → Fits p os (blank k) k

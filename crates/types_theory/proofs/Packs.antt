@@ -1,5 +1,5 @@
 -- Stacks and the cells that keep them determine each other.
-use Rattle.std.proofs.Common.{◌≡◌, ℕ, zero, suc, ◌+◌, ◌<◌, ◌≤◌, min, Bool, true, false, cond, T, eqb, List, [], ◌∷◌, map, length, get_or, sym, refl, ap, ◌∙◌, subst, ⊎_elim, arith, eq-eqb, ne_eqb, eqb-true}
+use Rattle.std.proofs.Common.{◌≡◌, ℕ, zero, suc, ◌<◌, ◌≤◌, min, Bool, true, false, cond, T, eqb, List, [], ◌∷◌, length, get_or, sym, refl, ap, ◌∙◌, subst, ⊎_elim, arith, eq-eqb, ne_eqb, eqb-true}
 use mathlib.Core.HLevel.{Π_prop}
 use native.Mathlib.Nat.{ℕ_set}
 use native.Mathlib.Bridge.{le_prop}
@@ -12,7 +12,7 @@ use Rattle.kinds.specs.declared.kind.Kind.TheVariants.{Int, Null, Unusable, Clas
 use Rattle.format.specs.Bytes.{tabulate}
 use Rattle.types_theory.specs.declared.operands.Operands.{Operands}
 use Rattle.types_theory.specs.Cells.{is_int, stack_in, cell}
-use Rattle.types_theory.specs.Packing.{stack, pack, entry, cell_past}
+use Rattle.types_theory.specs.Packing.{stack, pack, cell_past}
 
 pub stack_length : (cells : List Kind) (d : ℕ) → length (stack_in cells d) ≡ d
 stack_length cells zero = refl

@@ -1,37 +1,36 @@
 -- Where a stack of kinds describes a configuration and an instruction is accepted, the step meets neither fault 1, 2 nor 3, and
 -- the stack after it describes a run that goes on.
-use Rattle.std.proofs.Common.{◌≡◌, ℕ, zero, suc, ◌+◌, ◌/◌, ◌%◌, ◌<◌, ◌≤◌, Bool, true, false, cond, eqb, ltb, leb, List, [], ◌∷◌, ◌++◌, length, get_or, set, ℤ, pos, ◌+ℤ◌, Some, None, Ok, Err, Option, Result, sym, refl, ap, ◌∙◌, subst, add-one, arith, length-append, length-set, w16, w32, to_z, ltb-true, lt-ltb}
+use Rattle.std.proofs.Common.{◌≡◌, ℕ, zero, suc, ◌+◌, ◌/◌, ◌%◌, ◌<◌, ◌≤◌, Bool, true, false, cond, eqb, ltb, leb, List, [], ◌∷◌, ◌++◌, length, get_or, set, ℤ, pos, ◌+ℤ◌, Some, None, Ok, Err, Option, sym, refl, ap, ◌∙◌, subst, arith, length-append, length-set, w16, w32, to_z, ltb-true}
 use lib.Signed.{lt_z}
 use Rattle.std.specs.Int.{int_wrap}
 use Rattle.kinds.specs.declared.kind.Kind.{Kind}
-use Rattle.kinds.specs.declared.kind.Kind.TheVariants.{Int, Null, Unusable, Class}
+use Rattle.kinds.specs.declared.kind.Kind.TheVariants.{Int, Null, Class}
 use Rattle.opcodes.specs.declared.opcode.Opcode.{Opcode}
 use Rattle.opcodes.specs.declared.opcode.Opcode.TheVariants.{Push, Nil, Load, Store, Drop, Add, Less, Jump, Branch, Brnull, New, Get, Put, Post, Return}
 use Rattle.opcodes.specs.declared.opcode.Shape.{Shape}
 use Rattle.opcodes.specs.declared.opcode.Shape.TheVariants.{Int as AnInt, Null as ANull, Ref as ARef, Any as AnyValue, OfSlot, OfClass, OfOwner, OfField}
 use Rattle.opcodes.specs.declared.opcode.Takes.TheVariants.{One, Two}
-use Rattle.opcodes.specs.declared.opcode.Instruction.{Instruction}
 use Rattle.opcodes.specs.Table.{line_of}
-use Rattle.format.specs.Parts.{Parts, fields_of, field_count, field_of, slot_of, instruction_of}
+use Rattle.format.specs.Parts.{Parts, field_count, field_of, slot_of, instruction_of}
 use Rattle.format.specs.Rules.{Keeps, Names}
 use Rattle.lattice.specs.Order.{Lower}
 use Rattle.lattice.specs.Computing.{is_a}
 use Rattle.lattice.proofs.Orders.{keeps_lower}
 use Rattle.machine.specs.Values.{Value, int, ref, Object}
 use Rattle.machine.specs.Conforming.{conforms, class_of_object}
-use Rattle.machine.specs.Configuration.{Configuration, Outcome, goes, returned, stopped, fault}
-use Rattle.machine.specs.Step.{Found, took, finds, meets, does, acts, step, next, allowed, goes_at, loads, posts, ends, gets, puts, top, second, reference, number, is_zero, with_slot, with_objects, with_row, fresh, object_at}
+use Rattle.machine.specs.Configuration.{Configuration, Outcome, stopped, fault}
+use Rattle.machine.specs.Step.{Found, took, finds, does, step, next, allowed, goes_at, loads, posts, ends, gets, puts, reference, number, is_zero, with_slot, with_objects, with_row, fresh, object_at}
 use Rattle.machine.proofs.Expected.{either_expected, shallow_expected}
 use Rattle.analysis_theory.specs.declared.fault.Cause.TheVariants.{Outside}
 use Rattle.analysis_theory.specs.Laws.{Allowed}
 use Rattle.types_theory.specs.Effect.{taken, left, type_fault, then_leaves, effect_of, effect_made_at}
-use Rattle.types_theory.specs.Description.{Leads-to, Fits, FitAll, none, more, ObjectFits, Described}
+use Rattle.types_theory.specs.Description.{Fits, FitAll, more, ObjectFits, Described}
 use Rattle.types_theory.specs.Types.{stack_meaning}
 use Rattle.types_theory.proofs.KindOrder.{lies_same}
 use Rattle.types_theory.proofs.Effects.{test_passed}
-use Rattle.types_theory.proofs.Fitting.{never, fits_above, fit_length, Grown, fits_grown, fit_all_grown, object_grown, Has, inherited}
+use Rattle.types_theory.proofs.Fitting.{fit_length, Grown, fits_grown, fit_all_grown, Has, inherited}
 use Rattle.types_theory.proofs.Objects.{fresh_fits, grown_new, last_object, objects_new, changed, changed_fits, grown_set, objects_set, slots_set}
-use Rattle.types_theory.proofs.Taking.{Accepted, accepted, Operand, take_one_sound, take_two}
+use Rattle.types_theory.proofs.Taking.{accepted, Operand, take_one_sound, take_two}
 
 int_fits : (p : Parts) (os : List Object) (z : ℤ) → Fits p os (int z) Int
 int_fits p os z = record { conforming = refl; leading = tt }

@@ -1,7 +1,6 @@
 -- The analysis of types keeps the laws.
-use Rattle.std.proofs.Common.{◌≡◌, ℕ, ◌+◌, ◌/◌, ◌%◌, ◌<◌, ◌≤◌, Bool, true, false, cond, ◌&&◌, eqb, ltb, leb, List, [], ◌∷◌, length, get_or, Some, None, Ok, Err, Option, Result, sym, refl, ap, ◌∙◌, subst, ⊎_elim, arith, ltb-true, lt-ltb, eq-eqb, le-leb, leb-true}
-use lib.ListN.{get_or-eq_default}
-use Rattle.std.proofs.lemmas.Bool.{and_from, and_parts, cases_Bool, cases_lt}
+use Rattle.std.proofs.Common.{◌≡◌, ℕ, ◌/◌, ◌%◌, Bool, true, false, cond, ◌&&◌, ltb, leb, List, [], ◌∷◌, length, Some, Ok, Err, Option, Result, refl, subst, arith, ltb-true, lt-ltb, eq-eqb, le-leb, leb-true}
+use Rattle.std.proofs.lemmas.Bool.{and_from, and_parts}
 use Rattle.kinds.specs.declared.kind.Kind.{Kind}
 use Rattle.kinds.specs.declared.kind.Kind.TheVariants.{Int, Null, Unusable, Class}
 use Rattle.opcodes.specs.declared.opcode.Opcode.{Opcode}
@@ -10,26 +9,24 @@ use Rattle.opcodes.specs.declared.opcode.Shape.{Shape}
 use Rattle.opcodes.specs.declared.opcode.Takes.{Takes}
 use Rattle.opcodes.specs.declared.opcode.Takes.TheVariants.{Nothing, One, Two}
 use Rattle.opcodes.specs.Table.{line_of}
-use Rattle.format.specs.Parts.{Parts, slot_of, field_of, field_count, instruction_of}
+use Rattle.format.specs.Parts.{Parts, slot_of, field_of, instruction_of}
 use Rattle.format.specs.Rules.{Keeps, Names, Storable}
 use Rattle.lattice.specs.Order.{Lower}
 use Rattle.lattice.proofs.Orders.{keeps_lower}
-use Rattle.machine.specs.Configuration.{Configuration}
 use Rattle.analysis_theory.specs.declared.fault.Cause.{Cause}
-use Rattle.analysis_theory.specs.declared.fault.Cause.TheVariants.{TooFew, TooDeep, Misfit, Outside}
+use Rattle.analysis_theory.specs.declared.fault.Cause.TheVariants.{TooDeep, Misfit, Outside}
 use Rattle.analysis_theory.specs.declared.fault.Fault.{Fault}
 use Rattle.analysis_theory.specs.Laws.{Laws}
 use Rattle.analysis_theory.proofs.PackedLaws.{packed_laws}
 use Rattle.types_theory.specs.Packing.{stack, pack}
-use Rattle.types_theory.specs.Order.{known, all_known, all_below, joined_kinds}
-use Rattle.types_theory.specs.Effect.{kind_of_shape, suits, taken, left, type_fault, shallow, then_leaves, effect_of, effect_made_at}
-use Rattle.types_theory.specs.Description.{Described}
+use Rattle.types_theory.specs.Order.{known, all_known, joined_kinds}
+use Rattle.types_theory.specs.Effect.{suits, taken, left, type_fault, then_leaves, effect_of, effect_made_at}
 use Rattle.types_theory.specs.Types.{stack_meaning, types_meaning}
-use Rattle.types_theory.proofs.Stacks.{StackBelow, is_below, below_is, below_length, is_join, join_refused, stack_same, stack_further, stack_both, stack_falls, join_left, join_right, join_least, join_known}
+use Rattle.types_theory.proofs.Stacks.{is_below, below_is, below_length, is_join, join_refused, stack_same, stack_further, stack_both, stack_falls, join_left, join_right, join_least, join_known}
 use Rattle.types_theory.proofs.Effects.{test_passed, effect_below}
 use Rattle.types_theory.proofs.Packs.{view_pack, pack_view}
 use Rattle.types_theory.proofs.Fitting.{fit_all_above}
-use Rattle.types_theory.proofs.Taking.{Accepted, accepted}
+use Rattle.types_theory.proofs.Taking.{accepted}
 use Rattle.types_theory.proofs.Sound.{stack_safe}
 use Rattle.types_theory.proofs.Codes.{stack_bytes_are, stack_read_back, stack_reads_only, refused_layer}
 use Rattle.types_theory.proofs.Starting.{stack_start}

@@ -1,5 +1,5 @@
 -- The empty stack describes every start.
-use Rattle.std.proofs.Common.{◌≡◌, ℕ, zero, suc, ◌+◌, ◌-◌, ◌<◌, ◌≤◌, Bool, true, false, List, [], ◌∷◌, length, get_or, replicate, ℤ, pos, Some, None, Option, sym, refl, ap, ◌∙◌, subst, arith}
+use Rattle.std.proofs.Common.{◌≡◌, ℕ, zero, suc, ◌-◌, ◌<◌, List, [], ◌∷◌, length, get_or, replicate, ℤ, pos, Some, None, Option, sym, refl, ◌∙◌, subst, arith}
 use lib.ListN.{length-replicate}
 use Rattle.kinds.specs.declared.kind.Kind.{Kind}
 use Rattle.kinds.specs.declared.kind.Kind.TheVariants.{Int, Null, Unusable, Class}
@@ -7,11 +7,9 @@ use Rattle.format.specs.Parts.{Parts, field_count, field_of, slot_of}
 use Rattle.format.specs.Rules.{Keeps, Storable, IsClass}
 use Rattle.format.proofs.Views.{length_tabulate, get_d_tabulate}
 use Rattle.lattice.specs.Order.{Below, Lower}
-use Rattle.lattice.specs.Computing.{is_a}
 use Rattle.lattice.proofs.Orders.{keeps_lower}
 use Rattle.lattice.proofs.Computed.{is_a_decides}
 use Rattle.machine.specs.Values.{Value, int, ref, Object, Vessel}
-use Rattle.machine.specs.Conforming.{conforms}
 use Rattle.machine.specs.Step.{object_at}
 use Rattle.machine.specs.Runs.{Announced, cell_as, vessel_object, start}
 use Rattle.types_theory.specs.Description.{Fits, none, ObjectFits, Described}

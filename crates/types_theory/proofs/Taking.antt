@@ -2,15 +2,15 @@
 use Rattle.std.proofs.Common.{◌≡◌, ℕ, ◌≤◌, Bool, true, false, cond, leb, List, [], ◌∷◌, length, Ok, Err, Option, Result, refl, subst, arith, leb-true}
 use Rattle.kinds.specs.declared.kind.Kind.{Kind}
 use Rattle.opcodes.specs.declared.opcode.Shape.{Shape}
-use Rattle.opcodes.specs.declared.opcode.Takes.TheVariants.{Nothing, One, Two}
+use Rattle.opcodes.specs.declared.opcode.Takes.TheVariants.{One, Two}
 use Rattle.format.specs.Parts.{Parts}
 use Rattle.lattice.specs.Order.{Lower}
 use Rattle.machine.specs.Values.{Value, Object}
 use Rattle.machine.specs.Step.{Found, took, wrong, finds, meets}
 use Rattle.analysis_theory.specs.declared.fault.Cause.{Cause}
-use Rattle.analysis_theory.specs.declared.fault.Cause.TheVariants.{TooFew, TooDeep, Misfit}
-use Rattle.types_theory.specs.Effect.{suits, taken, left, type_fault, shallow, then_leaves}
-use Rattle.types_theory.specs.Description.{Leads-to, Fits, FitAll, none, more}
+use Rattle.analysis_theory.specs.declared.fault.Cause.TheVariants.{TooDeep, Misfit}
+use Rattle.types_theory.specs.Effect.{suits, taken, left, type_fault, then_leaves}
+use Rattle.types_theory.specs.Description.{Leads-to, FitAll, none, more}
 use Rattle.types_theory.proofs.Effects.{test_passed}
 use Rattle.types_theory.proofs.Fitting.{meets_suited}
 

@@ -1,5 +1,5 @@
 -- What the analysis of types means: over stacks of kinds, the top one first, and over the cells that keep them.
-use Rattle.std.specs.Prelude.{ℕ, ◌&&◌, ◌||◌, List, [], length, ◌==◌, nat_le}
+use Rattle.std.specs.Prelude.{◌&&◌, ◌||◌, List, [], length, ◌==◌, nat_le}
 use Rattle.kinds.specs.declared.kind.Kind.{Kind}
 use Rattle.format.specs.Parts.{Parts}
 use Rattle.analysis_theory.specs.Meaning.{Meaning}

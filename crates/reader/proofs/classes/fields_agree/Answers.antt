@@ -1,5 +1,5 @@
-use Rattle.std.proofs.Common.{◌≡◌, ℕ, ◌<◌, ◌≤◌, Bool, true, ◌||◌, ltb, List, sym, refl, ◌∙◌, ⊎_elim, arith}
-use Rattle.std.proofs.lemmas.Bool.{cond-true, cond-false, or_left, lt-ltb, le-ltb, cases_lt}
+use Rattle.std.proofs.Common.{◌≡◌, ℕ, ◌<◌, ◌≤◌, true, ◌||◌, ltb, List, sym, refl, ◌∙◌, ⊎_elim, arith}
+use Rattle.std.proofs.lemmas.Bool.{cond-true, or_left, lt-ltb, le-ltb, cases_lt}
 use Rattle.format.specs.Tests.{field_readable, field_agrees}
 use Rattle.format.proofs.Ranges.{up_to_same, up_to_fails}
 use Rattle.reader.proofs.classes.fields_agree.Goals as goal

@@ -1,4 +1,4 @@
-use Rattle.std.proofs.Common.{sym, ap, ◌∙◌}
+use Rattle.std.proofs.Common.{ap, ◌∙◌}
 use Rattle.kinds.specs.Codes.{kind_of}
 use Rattle.unit.specs.Model.{parts_of}
 use Rattle.unit.proofs.Fields.{field_past, field_here}
