@@ -1,8 +1,10 @@
-use Rattle.std.proofs.Common.{◌≡◌, ℕ, ◌<◌, ◌≤◌, Bool, Some, sym, ap, ◌∙◌, subst, inl, inr, arith}
+use Rattle.std.proofs.Common.{◌≡◌, ℕ, ◌<◌, ◌≤◌, Bool, not, get_or, Some, sym, ap, ◌∙◌, subst, inl, inr, arith}
+use Rattle.kinds.specs.declared.kind.Kind.TheVariants.{Int}
+use Rattle.kinds.specs.Same.{alike as alike_kinds}
 use Rattle.unit.specs.Model.{parts_of}
 use Rattle.types_theory.specs.Cells.{stack_in}
 use Rattle.types_theory.specs.Order.{joined_kinds}
-use Rattle.types.proofs.Joining.{JoinedTo, no_join, joined_none, CellTold, joined_more, joined_done, joined_refused, unlike, alike}
+use Rattle.types.proofs.Joining.{JoinedTo, no_join, joined_none, CellTold, joined_more, joined_done, joined_refused, unlike, alike, same_kinds}
 use Rattle.types.proofs.order.join_all.Goals as goal
 use Rattle.types.proofs.order.join_all.Goals.{then-ne, else-ne}
 
@@ -20,12 +22,14 @@ loop-i-preserved c =
     let p = parts_of c.args.unit.now in
     let few = a.few in
     let inside : c.loop-i.i < 16 = omega (arith, c.loop-i-test.true) in
-    let h = c.ne.ensures in
+    let k = get_or c.loop-i.kinds c.loop-i.i Int in
+    let d = same_kinds c.join-kind.result k in
+    let h : c.ne.result ≡ not (alike_kinds c.join-kind.result k) = c.ne.ensures in
     joined_more p a.kinds b.kinds c.loop-i.kinds c.loop-i.rose c.if-ne.rose c.loop-i.i c.join-kind.result c.loop-i.invariant inside
     c.join-kind.ensures.value
     (elim c.if-ne.branch [
-      | then-ne w ↦ inl (w.rose-is, unlike h.0 c.ne.result h.1 h.2 w.if-ne.true)
-      | else-ne w ↦ inr (w.rose-is, alike h.0 c.ne.result h.1 h.2 w.if-ne.false)
+      | then-ne w ↦ inl (w.rose-is, unlike (alike_kinds c.join-kind.result k) c.ne.result d h w.if-ne.true)
+      | else-ne w ↦ inr (w.rose-is, alike (alike_kinds c.join-kind.result k) c.ne.result d h w.if-ne.false)
     ])
 
 pub returns : goal.returns

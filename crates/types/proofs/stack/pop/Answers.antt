@@ -9,10 +9,12 @@ invariant_of-operands c =
     let s = c.args.operands.now in
     let cells = s.cells in
     let few = s.few in
-    let some : 0 < s.depth = omega arith in (
-      length-set s.kinds (s.depth - 1) Int ∙ cells,
-      (omega arith, (clear_more s.kinds s.depth (s.depth - 1) s.clear (omega arith) (omega arith), tt)),
-    )
+    let some : 0 < s.depth = omega arith in
+    record {
+      cells = length-set s.kinds (s.depth - 1) Int ∙ cells;
+      few = omega arith;
+      clear = clear_more s.kinds s.depth (s.depth - 1) s.clear (omega arith) (omega arith);
+    }
 
 pub returns : goal.returns
 returns c =
