@@ -1,5 +1,5 @@
 -- A claim whose test passes holds.
-use Rattle.std.proofs.Common.{◌≡◌, ℕ, true, ◌&&◌, List, [], ◌∷◌}
+use Rattle.std.proofs.Common.{◌≡◌, true, List, [], ◌∷◌}
 use Rattle.std.proofs.lemmas.Bool.{and_parts}
 use Rattle.three.specs.Meaning.{three_meaning}
 use Rattle.analysis_cases.specs.Claims.{seen_state, Claim, announces, makes, faults, writes, Holds, Every}

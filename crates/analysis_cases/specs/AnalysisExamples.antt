@@ -4,7 +4,7 @@ use Rattle.std.specs.Prelude.{ℕ, List, [], ◌∷◌, pos}
 use Rattle.kinds.specs.declared.kind.Kind.{Kind}
 use Rattle.kinds.specs.declared.kind.Kind.TheVariants.{Int, Null, Unusable, Class}
 use Rattle.opcodes.specs.declared.opcode.Instruction.{Instruction}
-use Rattle.opcodes.specs.declared.opcode.Opcode.TheVariants.{Push, Nil, Load, Store, Drop, Add, Less, Jump, Branch, Brnull, New, Get, Put, Post, Return}
+use Rattle.opcodes.specs.declared.opcode.Opcode.TheVariants.{Nil, Load, Store, Drop, Add, Less, Brnull, Get, Put, Post, Return}
 use Rattle.format.specs.Example.{instruction, example_rule}
 use Rattle.rows.specs.declared.state.RowState.{RowState}
 use Rattle.rows.specs.declared.state.RowState.TheVariants.{Empty, Held, Perhaps}

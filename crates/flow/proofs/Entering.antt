@@ -1,14 +1,12 @@
 -- One field of a certificate, from its tests.
-use Rattle.std.proofs.Common.{◌≡◌, ℕ, ◌+◌, ◌-◌, ◌<◌, ◌≤◌, Bool, true, false, cond, ◌&&◌, eqb, ltb, leb, List, length, take, drop, Ok, Err, Result, sym, refl, ap, ◌∙◌, subst, arith, lt-ltb, eq-eqb, ne_eqb, le-leb}
+use Rattle.std.proofs.Common.{◌≡◌, ℕ, ◌+◌, ◌-◌, ◌<◌, ◌≤◌, true, ◌&&◌, ltb, leb, List, length, take, drop, Ok, Err, Result, sym, refl, ap, ◌∙◌, subst, arith, lt-ltb, eq-eqb, ne_eqb, le-leb}
 use Rattle.std.proofs.lemmas.Bool.{and_from}
 use Rattle.format.specs.Bytes.{word_at}
 use Rattle.format.specs.Parts.{Parts}
 use Rattle.analysis_theory.specs.declared.fault.Unreadable.{Unreadable}
 use Rattle.analysis_theory.specs.Meaning.{Meaning, Got}
 use Rattle.analysis_theory.specs.Methods.{ReadAs}
-use Rattle.flow_theory.specs.declared.certificate.CertificateError.{CertificateError}
-use Rattle.flow_theory.specs.declared.certificate.CertificateError.TheVariants.{Framing, Number, State}
-use Rattle.flow_theory.specs.declared.certificate.Entry.{Entry}
+use Rattle.flow_theory.specs.declared.certificate.CertificateError.TheVariants.{State}
 use Rattle.flow_theory.specs.Certificate.{framed, state_in, entry_state, entry_in}
 
 module _ {S : Type 0} (p : Parts) (m : Meaning S) (bs : List ℕ) (q least at size : ℕ) (whole : true ≡ framed bs q) (sized : size ≡ word_at bs (q + 1)) (numbered : at ≡ word_at bs (q + 3)) (rises : least ≤ at) (inside : at < length p.code) where

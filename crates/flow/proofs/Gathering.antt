@@ -1,5 +1,5 @@
 -- The entries of a certificate, gathered in a table field by field.
-use Rattle.std.proofs.Common.{◌≡◌, ℕ, zero, suc, ◌+◌, ◌-◌, ◌<◌, ◌≤◌, Bool, true, false, cond, eqb, ◌≢◌, List, [], ◌∷◌, ◌++◌, length, get_or, set, Some, None, Ok, Err, Option, Result, sym, refl, ap, ◌∙◌, subst, ⊎_elim, arith, length-set, get_or-set_other, get_or-set_same, eq-eqb, ne_eqb}
+use Rattle.std.proofs.Common.{◌≡◌, ℕ, zero, suc, ◌+◌, ◌<◌, ◌≤◌, true, false, cond, eqb, ◌≢◌, List, [], ◌∷◌, ◌++◌, length, get_or, set, Some, None, Ok, Err, Result, sym, refl, ap, ◌∙◌, subst, ⊎_elim, arith, length-set, get_or-set_other, get_or-set_same, eq-eqb, ne_eqb}
 use Rattle.std.proofs.lemmas.Bool.{cases_eq}
 use Rattle.format.specs.Bytes.{word_at}
 use Rattle.format.specs.Parts.{Parts}
@@ -9,7 +9,7 @@ use Rattle.flow_theory.specs.declared.certificate.CertificateError.{CertificateE
 use Rattle.flow_theory.specs.declared.certificate.CertificateError.TheVariants.{Framing}
 use Rattle.flow_theory.specs.declared.certificate.Entry.{Entry}
 use Rattle.flow_theory.specs.Certificate.{headed, on_front, entries_from, entries_in, entry_in, entry_at}
-use Rattle.flow_theory.proofs.Fields.{read_on, on_fronts, fronts_more, fronts_none, fronts_err, first_field, no_field, FieldFacts, field_facts, entry_behind}
+use Rattle.flow_theory.proofs.Fields.{read_on, on_fronts, fronts_more, fronts_none, fronts_err, first_field, no_field, field_facts, entry_behind}
 use Rattle.flow.specs.Answers.{EntriesRead}
 use Rattle.flow.specs.Tables.{entries_on}
 

@@ -1,5 +1,5 @@
 -- The verdict, from what was read and the walk.
-use Rattle.std.proofs.Common.{◌≡◌, ℕ, List, Ok, Err, Option, Result, sym, refl, ap, ◌∙◌, subst, arith}
+use Rattle.std.proofs.Common.{◌≡◌, ℕ, List, Ok, Err, Result, ap, ◌∙◌, arith}
 use mathlib.Core.Path.{fun_ext}
 use Rattle.format.specs.Parts.{Parts}
 use Rattle.analysis_theory.specs.Meaning.{Meaning}
@@ -9,7 +9,7 @@ use Rattle.flow_theory.specs.declared.certificate.Entry.{Entry}
 use Rattle.flow_theory.specs.declared.flow.FlowFault.{FlowFault}
 use Rattle.flow_theory.specs.declared.check.CheckError.{CheckError}
 use Rattle.flow_theory.specs.declared.check.CheckError.TheVariants.{Certificate, Flow}
-use Rattle.flow_theory.specs.Certificate.{entries_in, entry_at}
+use Rattle.flow_theory.specs.Certificate.{entries_in}
 use Rattle.flow_theory.specs.Walk.{walk}
 use Rattle.flow_theory.specs.Checking.{flowing, judged, verdict}
 use Rattle.flow.specs.Answers.{EntriesRead}

@@ -1,5 +1,5 @@
 -- A table of states and its marks: what they hold, and what they are filled with.
-use Rattle.std.specs.Prelude.{ℕ, Bool, cond, ◌&&◌, List, ◌++◌, length, drop, replicate, Some, None, Err, Option, Result, ◌==◌, nat_le, slice_index, slice_index_or}
+use Rattle.std.specs.Prelude.{ℕ, Bool, cond, ◌&&◌, List, ◌++◌, length, drop, replicate, Some, None, Err, Result, ◌==◌, nat_le, slice_index, slice_index_or}
 use Rattle.format.specs.Parts.{Parts}
 use Rattle.analysis_theory.specs.Meaning.{Meaning}
 use Rattle.analysis_theory.specs.Typing.{Typing}

@@ -1,7 +1,6 @@
 -- A slot or a field that there is not has the default's kind.
-use Rattle.std.proofs.Common.{◌≡◌, ℕ, ◌<◌, ◌≤◌, Bool, true, false, cond, ◌&&◌, ltb, length, get_or, Some, None, unwrap_or, sym, refl, ap, ◌∙◌, arith, ltb-false}
+use Rattle.std.proofs.Common.{◌≡◌, ℕ, Bool, true, false, cond, ◌&&◌, ltb, length, get_or, Some, None, unwrap_or, sym, refl, ap, ltb-false}
 use lib.ListN.{get_or-eq_default}
-use Rattle.kinds.specs.declared.kind.Kind.{Kind}
 use Rattle.kinds.specs.declared.kind.Kind.TheVariants.{Int}
 use Rattle.format.specs.Parts.{Parts, within, slot_of, fields_of, field_count, field_of, no_class}
 use Rattle.unit.specs.Model.{field_in}

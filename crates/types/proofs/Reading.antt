@@ -1,5 +1,5 @@
 -- Reading a stack, kind by kind.
-use Rattle.std.proofs.Common.{◌≡◌, ℕ, zero, suc, ◌+◌, ◌*◌, ◌<◌, ◌≤◌, Bool, true, false, cond, ◌&&◌, T, leb, ◌≢◌, ◌⊎◌, List, [], ◌∷◌, length, get_or, set, Ok, Err, Result, sym, refl, ap, ◌∙◌, subst, inl, inr, ⊎_elim, arith, length-set, get_or-set_other, le-leb}
+use Rattle.std.proofs.Common.{◌≡◌, ℕ, zero, suc, ◌+◌, ◌*◌, ◌<◌, ◌≤◌, Bool, true, false, ◌&&◌, T, leb, ◌≢◌, ◌⊎◌, List, ◌∷◌, length, get_or, set, Ok, Err, sym, refl, ap, ◌∙◌, subst, inl, inr, ⊎_elim, arith, length-set, get_or-set_other, le-leb}
 use borrow.Author.Tests.{lt-leb}
 use Rattle.std.proofs.lemmas.Bool.{cases_eq, and_from}
 use Rattle.kinds.specs.declared.kind.Kind.{Kind}
@@ -7,8 +7,6 @@ use Rattle.kinds.specs.declared.kind.Kind.TheVariants.{Int}
 use Rattle.kinds.specs.Codes.{kind_of}
 use Rattle.format.specs.Bytes.{byte_at, word_at}
 use Rattle.format.specs.Parts.{Parts}
-use Rattle.analysis_theory.specs.declared.fault.Unreadable.{Unreadable}
-use Rattle.analysis_theory.specs.Meaning.{Got}
 use Rattle.analysis_theory.specs.Methods.{ReadAs}
 use Rattle.analysis_theory.specs.Packed.{packed_read}
 use Rattle.types_theory.specs.declared.operands.Operands.{Operands}

@@ -1,11 +1,10 @@
 -- Operands taken off one after the other are taken off as the table says.
-use Rattle.std.proofs.Common.{◌≡◌, ℕ, ◌<◌, ◌≤◌, Bool, true, false, cond, List, [], ◌∷◌, length, Some, None, Ok, Err, Option, Result, sym, refl, subst, arith}
+use Rattle.std.proofs.Common.{◌≡◌, ℕ, ◌<◌, ◌≤◌, Bool, true, false, cond, List, [], ◌∷◌, length, Some, Ok, Err, Option, Result, sym, subst, arith}
 use Rattle.kinds.specs.declared.kind.Kind.{Kind}
 use Rattle.opcodes.specs.declared.opcode.Shape.{Shape}
 use Rattle.opcodes.specs.declared.opcode.Takes.{Takes}
 use Rattle.opcodes.specs.declared.opcode.Takes.TheVariants.{Two}
 use Rattle.format.specs.Parts.{Parts}
-use Rattle.analysis_theory.specs.declared.fault.Cause.{Cause}
 use Rattle.analysis_theory.specs.declared.fault.Cause.TheVariants.{TooFew, Misfit}
 use Rattle.analysis_theory.specs.declared.fault.Fault.{Fault}
 use Rattle.types_theory.specs.Effect.{suits, taken, type_fault}

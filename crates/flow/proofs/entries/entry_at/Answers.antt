@@ -1,4 +1,4 @@
-use Rattle.std.proofs.Common.{◌≡◌, ◌<◌, ◌≤◌, length, sym, ◌∙◌, arith}
+use Rattle.std.proofs.Common.{◌<◌, length, arith}
 use Rattle.unit.specs.Model.{parts_of}
 use Rattle.flow.proofs.Entering.{entry_read, entry_left, entry_unread}
 use Rattle.flow.proofs.entries.entry_at.Goals as goal

@@ -1,9 +1,9 @@
-use Rattle.std.proofs.Common.{◌≡◌, ℕ, ◌+◌, ◌<◌, ◌≤◌, List, length, set, Ok, Err, sym, ap, ◌∙◌, subst, arith}
+use Rattle.std.proofs.Common.{ℕ, ◌+◌, List, set, Err, sym, ap, ◌∙◌, subst, arith}
 use Rattle.std.proofs.lemmas.Result.{err_from_is_err_and}
 use Rattle.unit.specs.Model.{parts_of}
 use Rattle.flow_theory.proofs.Fields.{field_facts}
 use Rattle.flow.specs.Tables.{entries_on}
-use Rattle.flow.proofs.Gathering.{Gathered, gathered_none, gathered_more, gathered_wrong, gathered_all, read_headless, read_wrong, read_whole}
+use Rattle.flow.proofs.Gathering.{Gathered, gathered_none, gathered_more, gathered_wrong, gathered_all, read_wrong, read_whole}
 use Rattle.flow.proofs.entries.read_entries.Goals as goal
 
 pub loop-place-init : goal.loop-place-init

@@ -1,4 +1,4 @@
-use Rattle.std.proofs.Common.{◌≡◌, ℕ, length, set, ap, ◌∙◌, subst, arith}
+use Rattle.std.proofs.Common.{◌≡◌, set, ap, ◌∙◌, arith}
 use Rattle.flow.specs.Tables.{filled}
 use Rattle.flow.proofs.Filling.{filled_more}
 use Rattle.flow.proofs.tables.fill.Goals as goal

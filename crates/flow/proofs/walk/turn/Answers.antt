@@ -1,4 +1,4 @@
-use Rattle.std.proofs.Common.{Ok, Option, subst}
+use Rattle.std.proofs.Common.{Ok, subst}
 use Rattle.unit.specs.Model.{parts_of}
 use Rattle.flow.specs.Answers.{HeldAt}
 use Rattle.flow.specs.Tables.{entries_on}

@@ -1,4 +1,4 @@
-use Rattle.std.proofs.Common.{◌≡◌, suc, ◌<◌, ◌≤◌, ◌∷◌, length, Ok, Err, refl, ap, ◌∙◌, arith}
+use Rattle.std.proofs.Common.{◌<◌, ◌≤◌, ◌∷◌, length, Ok, Err, refl, ap, ◌∙◌, arith}
 use Rattle.unit.specs.Model.{parts_of}
 use Rattle.types_theory.specs.Effect.{left, kind_of_shape}
 use Rattle.types_theory.specs.Packing.{stack}

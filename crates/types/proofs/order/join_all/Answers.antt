@@ -1,10 +1,10 @@
-use Rattle.std.proofs.Common.{◌≡◌, ℕ, ◌<◌, ◌≤◌, Bool, not, get_or, Some, sym, ap, ◌∙◌, subst, inl, inr, arith}
+use Rattle.std.proofs.Common.{◌≡◌, ℕ, ◌<◌, not, get_or, sym, ap, ◌∙◌, subst, inl, inr, arith}
 use Rattle.kinds.specs.declared.kind.Kind.TheVariants.{Int}
 use Rattle.kinds.specs.Same.{alike as alike_kinds}
 use Rattle.unit.specs.Model.{parts_of}
 use Rattle.types_theory.specs.Cells.{stack_in}
 use Rattle.types_theory.specs.Order.{joined_kinds}
-use Rattle.types.proofs.Joining.{JoinedTo, no_join, joined_none, CellTold, joined_more, joined_done, joined_refused, unlike, alike, same_kinds}
+use Rattle.types.proofs.Joining.{JoinedTo, no_join, joined_more, joined_done, joined_refused, unlike, alike, same_kinds}
 use Rattle.types.proofs.order.join_all.Goals as goal
 use Rattle.types.proofs.order.join_all.Goals.{then-ne, else-ne}
 

@@ -1,4 +1,4 @@
-use Rattle.std.proofs.Common.{◌≡◌, ℕ, ◌+◌, ◌*◌, ◌/◌, ◌%◌, ◌≤◌, List, length, set, sym, ap, ◌∙◌, subst, arith, length-set}
+use Rattle.std.proofs.Common.{◌≡◌, ℕ, ◌+◌, ◌*◌, ◌/◌, ◌%◌, ◌≤◌, length, set, ap, ◌∙◌, subst, arith, length-set}
 use Rattle.types.proofs.Coding.{Coded, coded_none, coded_more, coded_short, coded_length, coded_all}
 use Rattle.types.proofs.writing.write_stack.Goals as goal
 

@@ -1,4 +1,3 @@
-use Rattle.types_theory.specs.Packing.{stack}
 use Rattle.types.proofs.Coding.{Coded}
 use Rattle.types.proofs.writing.write_stack.Given as goal
 
