@@ -1,4 +1,4 @@
-//! The program `berth` shows rule units, the built-in rule or the unit that a file holds, and what the analyses say of them.
+//! The program `berth_effects` shows rule units, the built-in rule or the unit that a file holds, and what the analyses say of them.
 #![tactic(auto)]
 
 mod effects;

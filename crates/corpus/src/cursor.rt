@@ -53,6 +53,7 @@ impl<'a> Cursor<'a> {
     }
 
     /// Takes bytes that have their length before them in four bytes.
+    #[tactic(auto, using(crate::proofs::Pieces::as_many))]
     pub fn blob(&mut self) -> Option<&'a [u8]>
         ensures { TakesBlob self.old result self.new }
     {

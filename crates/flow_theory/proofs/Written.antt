@@ -54,13 +54,13 @@ module _ {S : Type 0} {p : Parts} {m : Meaning S} (laws : Laws p m) (τ : Typing
   arrives_well i o None q u = refl
 
   -- what is held is a state below the typing's
-  record Held-under (i : ℕ) (s : S) : Type 0 where
+  record HeldUnder (i : ℕ) (s : S) : Type 0 where
     is_a_state : m.is_state s ≡ true
     upper : S
     there : τ i ≡ Some upper
     under : m.below s upper ≡ true
 
-  held_under : (i : ℕ) (o e : Option S) (s : S) → entries i ≡ e → Under i o → holds e o ≡ Some s → Held-under i s
+  held_under : (i : ℕ) (o e : Option S) (s : S) → entries i ≡ e → Under i o → holds e o ≡ Some s → HeldUnder i s
   held_under i o (Some e) s q u h =
       let is : e ≡ s = grind arith in
       let there : τ i ≡ Some s = entry_is i e q ∙ ap Some is in
@@ -82,7 +82,7 @@ module _ {S : Type 0} {p : Parts} {m : Meaning S} (laws : Laws p m) (τ : Typing
   lower (Some s) t u k a b h g = laws.transitive t u s a b (k s refl) h g
   lower None t u k a b h g = g
 
-  moved : (i : ℕ) (s : S) → Held-under i s → Moved i s
+  moved : (i : ℕ) (s : S) → HeldUnder i s → Moved i s
   moved i s h = from (m.after i h.upper) refl (stable.flows i h.upper h.there)
     where
       upper_state : m.is_state h.upper ≡ true
@@ -114,7 +114,7 @@ module _ {S : Type 0} {p : Parts} {m : Meaning S} (laws : Laws p m) (τ : Typing
       go false w = refl
 
   -- what goes on stays below the typing
-  record Goes_on (i : ℕ) (r : Result (Option S) FlowFault) : Type 0 where
+  record GoesOn (i : ℕ) (r : Result (Option S) FlowFault) : Type 0 where
     arriving : Option S
     ok : r ≡ Ok arriving
     under : Under (i + 1) arriving
@@ -122,10 +122,10 @@ module _ {S : Type 0} {p : Parts} {m : Meaning S} (laws : Laws p m) (τ : Typing
   nothing : (i : ℕ) → Under i None
   nothing i a q = absurd (grind arith)
 
-  goes_well : (i : ℕ) (t : S) → m.is_state t ≡ true → ((j : ℕ) → Leads p i j → HoldsAbove m (τ j) t) → Goes_on i (onward p i t)
+  goes_well : (i : ℕ) (t : S) → m.is_state t ≡ true → ((j : ℕ) → Leads p i j → HoldsAbove m (τ j) t) → GoesOn i (onward p i t)
   goes_well i t k g = go (passes (ways_at p i)) refl
     where
-      go : (b : Bool) → passes (ways_at p i) ≡ b → Goes_on i (cond b (cond (ltb (i + 1) (length p.code)) (Ok (Some t)) (Err (Leaves i))) (Ok None))
+      go : (b : Bool) → passes (ways_at p i) ≡ b → GoesOn i (cond b (cond (ltb (i + 1) (length p.code)) (Ok (Some t)) (Err (Leaves i))) (Ok None))
       go true w =
           let h = g (i + 1) (next w) in
           let a = typed (τ (i + 1)) t h in
@@ -137,17 +137,17 @@ module _ {S : Type 0} {p : Parts} {m : Meaning S} (laws : Laws p m) (τ : Typing
           }
       go false w = record { arriving = None; ok = refl; under = nothing (i + 1) }
 
-  turn_well : (i : ℕ) (o : Option S) → i < length p.code → Under i o → Goes_on i (turn p m entries i o)
+  turn_well : (i : ℕ) (o : Option S) → i < length p.code → Under i o → GoesOn i (turn p m entries i o)
   turn_well i o l u =
-      subst (λ (b : Bool). Goes_on i (cond b (passed_over p m entries i (holds (entries i) o)) (Err (NotBelow i (sender_of i))))) (sym (arrives_well i o (entries i) refl u))
+      subst (λ (b : Bool). GoesOn i (cond b (passed_over p m entries i (holds (entries i) o)) (Err (NotBelow i (sender_of i))))) (sym (arrives_well i o (entries i) refl u))
       (on (holds (entries i) o) refl)
     where
-      on : (h : Option S) → holds (entries i) o ≡ h → Goes_on i (passed_over p m entries i h)
+      on : (h : Option S) → holds (entries i) o ≡ h → GoesOn i (passed_over p m entries i h)
       on (Some s) q =
           let hu = held_under i o (entries i) s refl u q in
           let mv = moved i s hu in
-          subst (λ (r : Result S Fault). Goes_on i (visited p m entries i r)) (sym mv.accepted)
-          (subst (λ (r : Result (Unit {0}) FlowFault). Goes_on i (and_then r (onward p i mv.after))) (sym (jumps_well i hu.upper mv.after l hu.there mv.above))
+          subst (λ (r : Result S Fault). GoesOn i (visited p m entries i r)) (sym mv.accepted)
+          (subst (λ (r : Result (Unit {0}) FlowFault). GoesOn i (and_then r (onward p i mv.after))) (sym (jumps_well i hu.upper mv.after l hu.there mv.above))
           (goes_well i mv.after mv.is_a_state mv.above))
       on None q = record { arriving = None; ok = refl; under = nothing (i + 1) }
 

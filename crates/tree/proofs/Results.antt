@@ -10,6 +10,10 @@ use Rattle.unit.specs.declared.unit.Unit.{Unit}
 use Rattle.unit.specs.Model.{parts_of}
 use Rattle.tree.proofs.Parents.{unit_lower}
 
+-- the kinds of a unit are ordered
+pub unit_order : (u : Unit) → Order (parts_of u)
+unit_order u = lower_order (parts_of u) (unit_lower u)
+
 -- what decides the order is what its test computes
 abbrev pub BelowAnswer : Unit → Kind → Kind → Bool → Type 0
 BelowAnswer u a b r = record { decides : Decides r (Below (parts_of u) a b); value : r ≡ lies (parts_of u) a b; order : Order (parts_of u) }
@@ -19,7 +23,7 @@ below_answer u a b r h =
     record {
       decides = h;
       value = same_from_decides r (lies (parts_of u) a b) h (lies_decides (parts_of u) (unit_lower u) a b);
-      order = lower_order (parts_of u) (unit_lower u);
+      order = unit_order u;
     }
 
 -- the least kind is the one that climbing finds

@@ -1,9 +1,7 @@
 -- Joining stacks from the bottom, cell by cell.
-use Rattle.std.proofs.Common.{◌≡◌, ℕ, zero, suc, ◌+◌, ◌<◌, ◌≤◌, Bool, true, false, not, ◌≢◌, ◌⊎◌, List, ◌∷◌, length, get_or, set, Some, None, Ok, Err, Decides, MatchBool, Option, sym, refl, ap, ◌∙◌, subst, inl, inr, arith, length-set, get_or-set_other, eq-eqb}
-use Rattle.std.proofs.lemmas.Bool.{eqb-true}
+use Rattle.std.proofs.Common.{◌≡◌, ℕ, zero, suc, ◌+◌, ◌<◌, ◌≤◌, Bool, true, false, not, ◌≢◌, ◌⊎◌, List, ◌∷◌, length, get_or, set, Some, None, Ok, Err, Decides, MatchBool, Option, sym, refl, ap, ◌∙◌, subst, inl, inr, arith, length-set, get_or-set_other}
 use Rattle.kinds.specs.declared.kind.Kind.{Kind}
-use Rattle.kinds.specs.declared.kind.Kind.TheVariants.{Int, Null, Unusable, Class}
-use Rattle.kinds.specs.Same.{alike as alike_kinds}
+use Rattle.kinds.specs.declared.kind.Kind.TheVariants.{Int}
 use Rattle.format.specs.Parts.{Parts}
 use Rattle.lattice.specs.Computing.{least_of}
 use Rattle.analysis_theory.specs.Methods.{Joined}
@@ -90,28 +88,3 @@ unlike false r d e f h = let q = d.1 h in let z : ◌≡◌ {A = ℕ} 0 1 = cc i
 pub alike : {P : Type 0} (k r : Bool) → Decides k P → r ≡ not k → r ≡ false → P
 alike true r d e f = d.0 refl
 alike false r d e f = absurd (let z : ◌≡◌ {A = ℕ} 0 1 = cc in omega arith)
-
--- the test of kinds that `==` computes decides that they are the same
-yes : {P : Type 0} → P → Decides true P
-yes h = (λ _. h, λ _. refl)
-
-no : {P : Type 0} → (P → ⊥) → Decides false P
-no n = (λ e. absurd (let z : ◌≡◌ {A = ℕ} 0 1 = cc in omega arith), λ h. absurd (n h))
-
-pub same_kinds : (a b : Kind) → Decides (alike_kinds a b) (a ≡ b)
-same_kinds Int Int = yes refl
-same_kinds Int Null = no (λ e. cc)
-same_kinds Int Unusable = no (λ e. cc)
-same_kinds Int (Class d) = no (λ e. cc)
-same_kinds Null Int = no (λ e. cc)
-same_kinds Null Null = yes refl
-same_kinds Null Unusable = no (λ e. cc)
-same_kinds Null (Class d) = no (λ e. cc)
-same_kinds Unusable Int = no (λ e. cc)
-same_kinds Unusable Null = no (λ e. cc)
-same_kinds Unusable Unusable = yes refl
-same_kinds Unusable (Class d) = no (λ e. cc)
-same_kinds (Class c) Int = no (λ e. cc)
-same_kinds (Class c) Null = no (λ e. cc)
-same_kinds (Class c) Unusable = no (λ e. cc)
-same_kinds (Class c) (Class d) = (λ e. ap Class (eqb-true c d e), λ e. let q : c ≡ d = cc in eq-eqb c d q)

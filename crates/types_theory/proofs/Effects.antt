@@ -18,9 +18,9 @@ use Rattle.types_theory.proofs.KindOrder.{lies_same, lies_further, reference_bel
 use Rattle.types_theory.proofs.Stacks.{StackBelow, none, more, is_below, below_is, below_length}
 
 -- operands are taken, and what is left is as P says
-abbrev pub Takes-so : Result (List Kind) Cause → (List Kind → Type 0) → Type 0
-Takes-so (Ok ks) P = P ks
-Takes-so (Err c) P = ⊥
+abbrev pub TakesSo : Result (List Kind) Cause → (List Kind → Type 0) → Type 0
+TakesSo (Ok ks) P = P ks
+TakesSo (Err c) P = ⊥
 
 -- what was taken, by the test that passed
 pub test_passed : {E : Type 0} (b : Bool) (x y : Result (List Kind) E) (f : E) (ks : List Kind) → y ≡ Err f → cond b x y ≡ Ok ks → (b ≡ true) × (x ≡ Ok ks)
@@ -38,7 +38,7 @@ module _ (p : Parts) (low : Lower p) where
   suits_below n OfOwner a b h k = lies_further p low a b _ h k
   suits_below n OfField a b h k = lies_further p low a b _ h k
 
-  taken_below : (n : ℕ) (t : Takes) {ks js : List Kind} (ls : List Kind) → StackBelow p ks js → taken p n t js ≡ Ok ls → Takes-so (taken p n t ks) (λ ms. StackBelow p ms ls)
+  taken_below : (n : ℕ) (t : Takes) {ks js : List Kind} (ls : List Kind) → StackBelow p ks js → taken p n t js ≡ Ok ls → TakesSo (taken p n t ks) (λ ms. StackBelow p ms ls)
   taken_below n Nothing {ks = ks} ls h e = subst (StackBelow p ks) (grind arith) h
   taken_below n (One a) ls none e = grind arith
   taken_below n (One a) ls (more {k = k} {j = j} {ks = ks} {js = js} h m) e =
@@ -61,7 +61,7 @@ module _ (p : Parts) (low : Lower p) where
       let s : leb (length ks) p.depth ≡ true = subst (λ (n : ℕ). leb n p.depth ≡ true) (sym (below_length p h)) u.0 in
       rw s (below_is p (subst (StackBelow p ks) (grind arith) h))
 
-  then_below : (n : ℕ) (s : Option Shape) (x y : Result (List Kind) Cause) (ls : List Kind) → ((ms : List Kind) → y ≡ Ok ms → Takes-so x (λ ns. StackBelow p ns ms)) → then_leaves p n s y ≡ Ok ls → Accepts (then_leaves p n s x) (λ ms. all_below p ms ls ≡ true)
+  then_below : (n : ℕ) (s : Option Shape) (x y : Result (List Kind) Cause) (ls : List Kind) → ((ms : List Kind) → y ≡ Ok ms → TakesSo x (λ ns. StackBelow p ns ms)) → then_leaves p n s y ≡ Ok ls → Accepts (then_leaves p n s x) (λ ms. all_below p ms ls ≡ true)
   then_below n s (Ok ks) (Ok js) ls h e = shallow_below ls (left_below n s (h js refl)) e
   then_below n s (Err c) (Ok js) ls h e = h js refl
   then_below n s x (Err c) ls h e = absurd (grind arith)

@@ -14,7 +14,7 @@ use Rattle.machine.specs.Values.{Value, int, ref, Object}
 use Rattle.machine.specs.Conforming.{conforms, class_of_object, is_ref}
 use Rattle.machine.specs.Step.{meets}
 use Rattle.types_theory.specs.Effect.{is_reference, suits}
-use Rattle.types_theory.specs.Description.{Leads-to, Fits, FitAll, none, more, ObjectFits}
+use Rattle.types_theory.specs.Description.{LeadsTo, Fits, FitAll, none, more, ObjectFits}
 use Rattle.types_theory.proofs.Stacks.{StackBelow}
 
 pub never : {A : Type 0} → false ≡ true → A
@@ -73,7 +73,7 @@ pub record Grown (os os' : List Object) : Type 0 where
   pub most : length os ≤ length os'
   pub classes : (i : ℕ) → i < length os → class_of_object os' i ≡ class_of_object os i
 
-fits_grown_at : (p : Parts) (os os' : List Object) → Grown os os' → (v : Value) (k : Kind) → Leads-to (length os) v → conforms p os v k ≡ true → conforms p os' v k ≡ true
+fits_grown_at : (p : Parts) (os os' : List Object) → Grown os os' → (v : Value) (k : Kind) → LeadsTo (length os) v → conforms p os v k ≡ true → conforms p os' v k ≡ true
 fits_grown_at p os os' g (int z) Int l h = refl
 fits_grown_at p os os' g (int z) Null l h = h
 fits_grown_at p os os' g (int z) Unusable l h = refl
@@ -87,7 +87,7 @@ fits_grown_at p os os' g (ref (suc i)) Null l h = h
 fits_grown_at p os os' g (ref (suc i)) Unusable l h = refl
 fits_grown_at p os os' g (ref (suc i)) (Class d) l h = subst (λ (c : ℕ). is_a p c d ≡ true) (sym (g.classes i l)) h
 
-leads_grown : (n m : ℕ) (v : Value) → n ≤ m → Leads-to n v → Leads-to m v
+leads_grown : (n m : ℕ) (v : Value) → n ≤ m → LeadsTo n v → LeadsTo m v
 leads_grown n m (int z) l h = tt
 leads_grown n m (ref zero) l h = tt
 leads_grown n m (ref (suc i)) l h = omega arith

@@ -10,7 +10,7 @@ use Rattle.machine.specs.Step.{Found, took, wrong, finds, meets}
 use Rattle.analysis_theory.specs.declared.fault.Cause.{Cause}
 use Rattle.analysis_theory.specs.declared.fault.Cause.TheVariants.{TooDeep, Misfit}
 use Rattle.types_theory.specs.Effect.{suits, taken, left, type_fault, then_leaves}
-use Rattle.types_theory.specs.Description.{Leads-to, FitAll, none, more}
+use Rattle.types_theory.specs.Description.{LeadsTo, FitAll, none, more}
 use Rattle.types_theory.proofs.Effects.{test_passed}
 use Rattle.types_theory.proofs.Fitting.{meets_suited}
 
@@ -31,7 +31,7 @@ accepted p n s (Err c) ls e = absurd (grind arith)
 -- an operand that was taken
 pub record Operand (p : Parts) (os : List Object) (n : ℕ) (a : Shape) (v : Value) : Type 0 where
   pub met : meets p os n a v ≡ true
-  pub leading : Leads-to (length os) v
+  pub leading : LeadsTo (length os) v
 
 module _ (p : Parts) (low : Lower p) (os : List Object) (n : ℕ) (Q : Found → Type 0) where
   one_found : (b : Bool) (f g : Found) → b ≡ true → Q f → Q (cond b f g)

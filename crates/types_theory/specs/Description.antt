@@ -9,15 +9,15 @@ use Rattle.machine.specs.Configuration.{Configuration}
 use Rattle.machine.specs.Step.{object_at}
 
 -- a reference is null or leads to one of so many objects
-abbrev pub Leads-to : ℕ → Value → Type 0
-Leads-to objects (int z) = Unit {0}
-Leads-to objects (ref zero) = Unit {0}
-Leads-to objects (ref (suc i)) = i < objects
+abbrev pub LeadsTo : ℕ → Value → Type 0
+LeadsTo objects (int z) = Unit {0}
+LeadsTo objects (ref zero) = Unit {0}
+LeadsTo objects (ref (suc i)) = i < objects
 
 -- a value may stand where a kind is asked for
 pub record Fits (p : Parts) (os : List Object) (v : Value) (k : Kind) : Type 0 where
   pub conforming : conforms p os v k ≡ true
-  pub leading : Leads-to (length os) v
+  pub leading : LeadsTo (length os) v
 
 -- operands and kinds, both with the top first
 pub data FitAll (p : Parts) (os : List Object) : List Value → List Kind → Type 0 where

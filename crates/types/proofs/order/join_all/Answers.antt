@@ -1,10 +1,11 @@
 use Rattle.std.proofs.Common.{◌≡◌, ℕ, ◌<◌, not, get_or, sym, ap, ◌∙◌, subst, inl, inr, arith}
 use Rattle.kinds.specs.declared.kind.Kind.TheVariants.{Int}
 use Rattle.kinds.specs.Same.{alike as alike_kinds}
+use Rattle.kinds.proofs.Same.{alike_decides}
 use Rattle.unit.specs.Model.{parts_of}
 use Rattle.types_theory.specs.Cells.{stack_in}
 use Rattle.types_theory.specs.Order.{joined_kinds}
-use Rattle.types.proofs.Joining.{JoinedTo, no_join, joined_more, joined_done, joined_refused, unlike, alike, same_kinds}
+use Rattle.types.proofs.Joining.{JoinedTo, no_join, joined_more, joined_done, joined_refused, unlike, alike}
 use Rattle.types.proofs.order.join_all.Goals as goal
 use Rattle.types.proofs.order.join_all.Goals.{then-ne, else-ne}
 
@@ -23,7 +24,7 @@ loop-i-preserved c =
     let few = a.few in
     let inside : c.loop-i.i < 16 = omega (arith, c.loop-i-test.true) in
     let k = get_or c.loop-i.kinds c.loop-i.i Int in
-    let d = same_kinds c.join-kind.result k in
+    let d = alike_decides c.join-kind.result k in
     let h : c.ne.result ≡ not (alike_kinds c.join-kind.result k) = c.ne.ensures in
     joined_more p a.kinds b.kinds c.loop-i.kinds c.loop-i.rose c.if-ne.rose c.loop-i.i c.join-kind.result c.loop-i.invariant inside
     c.join-kind.ensures.value
