@@ -3,7 +3,7 @@
 use std::path::Path;
 
 fn main() {
-    let library = Path::new(env!("CARGO_MANIFEST_DIR")).join("../crates/unit_abi/out");
+    let library = Path::new(env!("CARGO_MANIFEST_DIR")).join("../target/staticlib");
     println!("cargo::rerun-if-changed={}", library.join("libunit_abi.a").display());
     println!("cargo::rustc-link-search=native={}", library.display());
     println!("cargo::rustc-link-lib=static=unit_abi");

@@ -1,4 +1,4 @@
-//! The reader for C and Rust, as a static library: a slice of bytes passes as a pointer and a length.
+//! The reader for C and Rust, by one number. The crate `unit_abi_c` exports it as a static library.
 #![tactic(auto)]
 
 ghost use Rattle.std.specs.Prelude.{◌≡◌, ℕ, ◌*◌};
@@ -9,8 +9,7 @@ use unit::read::read;
 use unit::unit::Unit;
 
 /// 0 where the bytes are a unit, and else the number of the refusal, from 1 to 5.
-#[unsafe(no_mangle)]
-pub extern "C" fn berth_unit_read(bytes: &[u8]) -> u32
+pub fn berth_unit_read(bytes: &[u8]) -> u32
     ensures { result ≡ answer_of (reading bytes.now) }
 {
     let mut unit = Unit::builtin();
@@ -21,8 +20,7 @@ pub extern "C" fn berth_unit_read(bytes: &[u8]) -> u32
 }
 
 /// Reads the bytes so many times; how often they were refused.
-#[unsafe(no_mangle)]
-pub extern "C" fn berth_unit_read_rounds(bytes: &[u8], rounds: u32) -> u32
+pub fn berth_unit_read_rounds(bytes: &[u8], rounds: u32) -> u32
     ensures { result ≡ rounds * refused_once (reading bytes.now) }
 {
     let mut refused = 0;
