@@ -1,4 +1,4 @@
-//! The proved reader, from the static library of the crate `unit_abi`.
+//! The proved reader, from the static library of the crate `unit_abi_c`.
 
 extern "C" {
     /// Takes a slice as its pointer and its length.

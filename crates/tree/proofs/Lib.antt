@@ -1,2 +1,2 @@
 pub mod Parents
-mod Results
+pub mod Results
