@@ -11,6 +11,7 @@ use unit::unit::Unit;
 
 /// An analysis of rule units: states that describe configurations of a run, and what each instruction makes of them. It is
 /// of the unit that it is asked about.
+// The unit is kept as a parameter of each method: in the analysis, the parts of a pair could be of two units.
 pub trait Analysis {
     type State: Copy;
 

@@ -10,7 +10,7 @@ use unit::unit::Unit;
 const LONGEST: usize = 65533;
 
 /// Two analyses of one unit at once, the left one before the right one.
-#[derive(Clone, Copy)]
+#[derive(Clone, Copy, Debug, PartialEq, Eq)]
 pub struct Pair<L, R> {
     pub left: L,
     pub right: R,

@@ -1,3 +1,2 @@
-pub mod Same
 pub mod Seen
 pub mod Sound

@@ -15,18 +15,16 @@ use Rattle.analysis_theory.specs.declared.both.Both.{Both}
 use Rattle.analysis_theory.specs.declared.fault.Fault.{Fault}
 use Rattle.analysis_theory.specs.Faults.{fault_number, fault_detail}
 use Rattle.analysis_theory.specs.Pairs.{both}
-use Rattle.types_theory.specs.declared.operands.Operands.{Operands}
-use Rattle.types_theory.specs.Packing.{stack, pack}
-use Rattle.types_theory.proofs.Packs.{pack_view}
-use Rattle.slots.specs.declared.set.SlotSet.{SlotSet}
-use Rattle.slots.specs.Sets.{of_bits}
-use Rattle.slots.specs.Same.{same_set}
-use Rattle.rows.specs.declared.state.RowState.{RowState}
-use Rattle.rows.specs.declared.state.RowState.TheVariants.{Empty, Held, Perhaps}
+use Rattle.types.specs.declared.operands.Operands.{Operands}
+use Rattle.slots_theory.specs.declared.set.SlotSet.{SlotSet}
+use Rattle.slots_theory.specs.Sets.{of_bits}
+use Rattle.slots_theory.proofs.Same.{same_set}
+use Rattle.rows_theory.specs.declared.state.RowState.{RowState}
+use Rattle.rows_theory.specs.declared.state.RowState.TheVariants.{Empty, Held, Perhaps}
 use Rattle.analysis_cases.specs.Claims.{Seen, seen_state}
 use Rattle.cases.specs.Computed.{same_kind, same_number, tree_test}
-use Rattle.analysis_cases.specs.Computed.{same_kinds, same_row, is_seen, made_as, fault_is, same_bytes, is_class_kind, cell_test, vessel_test}
-use Rattle.analysis_cases.proofs.Same.{same_kind_sound, same_number_sound, tree_lower}
+use Rattle.analysis_cases.specs.Computed.{same_kinds, same_row, is_seen, made_as, fault_is, is_class_kind, cell_test, vessel_test}
+use Rattle.cases.proofs.Sound.{same_kind_sound, same_number_sound, tree_lower}
 
 same_kinds_sound : (js ks : List Kind) → same_kinds js ks ≡ true → js ≡ ks
 same_kinds_sound [] [] t = refl
@@ -49,21 +47,11 @@ same_row_sound Perhaps Empty t = absurd (false≢true t)
 same_row_sound Perhaps Held t = absurd (false≢true t)
 same_row_sound Perhaps Perhaps t = refl
 
-pub same_bytes_sound : (xs bs : List ℕ) → same_bytes xs bs ≡ true → xs ≡ bs
-same_bytes_sound [] [] t = refl
-same_bytes_sound [] (b ∷ bs) t = absurd (false≢true t)
-same_bytes_sound (a ∷ xs) [] t = absurd (false≢true t)
-same_bytes_sound (a ∷ xs) (b ∷ bs) t =
-    let s = and_parts (eqb a b) (same_bytes xs bs) t in
-    let e = eqb-true a b s.0 in
-    let f = same_bytes_sound xs bs s.1 in
-    cc
-
 is_seen_sound : (s : Both Operands (Both SlotSet RowState)) (t : Seen) → is_seen s t ≡ true → s ≡ seen_state t
 is_seen_sound s t h =
-    let u = and_parts (same_kinds (stack s.left) t.operands) (eqb s.right.left.bits (of_bits t.slots).bits && same_row s.right.right t.row) h in
+    let u = and_parts (same_kinds s.left t.operands) (eqb s.right.left.bits (of_bits t.slots).bits && same_row s.right.right t.row) h in
     let v = and_parts (eqb s.right.left.bits (of_bits t.slots).bits) (same_row s.right.right t.row) u.1 in
-    let operands : s.left ≡ pack t.operands = sym (pack_view s.left) ∙ ap pack (same_kinds_sound (stack s.left) t.operands u.0) in
+    let operands = same_kinds_sound s.left t.operands u.0 in
     let slots : s.right.left ≡ of_bits t.slots = same_set s.right.left (of_bits t.slots) (eqb-true _ _ v.0) in
     let row : s.right.right ≡ t.row = same_row_sound s.right.right t.row v.1 in
     λ i. both (operands i) (both (slots i) (row i))

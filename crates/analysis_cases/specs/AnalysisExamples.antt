@@ -6,8 +6,8 @@ use Rattle.kinds.specs.declared.kind.Kind.TheVariants.{Int, Null, Unusable, Clas
 use Rattle.opcodes.specs.declared.opcode.Instruction.{Instruction}
 use Rattle.opcodes.specs.declared.opcode.Opcode.TheVariants.{Nil, Load, Store, Drop, Add, Less, Brnull, Get, Put, Post, Return}
 use Rattle.format.specs.Example.{instruction, example_rule}
-use Rattle.rows.specs.declared.state.RowState.{RowState}
-use Rattle.rows.specs.declared.state.RowState.TheVariants.{Empty, Held, Perhaps}
+use Rattle.rows_theory.specs.declared.state.RowState.{RowState}
+use Rattle.rows_theory.specs.declared.state.RowState.TheVariants.{Empty, Held, Perhaps}
 use Rattle.analysis_cases.specs.Claims.{Seen, Claim, announces, makes, faults, writes}
 use Rattle.cases.specs.MachineExamples.{ferry_of, rule_of}
 

@@ -1,5 +1,5 @@
 -- What a worked example of the analyses can claim, and what each claim means, over the definitions that the contracts use.
-use Rattle.std.specs.Prelude.{◌≡◌, ℕ, List, [], ◌∷◌, Ok, Err}
+use Rattle.std.specs.Prelude.{◌≡◌, ℕ, List, Ok, Err}
 use Rattle.kinds.specs.declared.kind.Kind.{Kind}
 use Rattle.format.specs.Parts.{Parts}
 use Rattle.machine.specs.Values.{Vessel}
@@ -8,11 +8,10 @@ use Rattle.analysis_theory.specs.declared.both.Both.{Both}
 use Rattle.analysis_theory.specs.declared.fault.Fault.{Fault}
 use Rattle.analysis_theory.specs.Faults.{fault_number, fault_detail}
 use Rattle.analysis_theory.specs.Pairs.{both}
-use Rattle.types_theory.specs.declared.operands.Operands.{Operands}
-use Rattle.types_theory.specs.Packing.{pack}
-use Rattle.slots.specs.declared.set.SlotSet.{SlotSet}
-use Rattle.slots.specs.Sets.{of_bits}
-use Rattle.rows.specs.declared.state.RowState.{RowState}
+use Rattle.types.specs.declared.operands.Operands.{Operands}
+use Rattle.slots_theory.specs.declared.set.SlotSet.{SlotSet}
+use Rattle.slots_theory.specs.Sets.{of_bits}
+use Rattle.rows_theory.specs.declared.state.RowState.{RowState}
 use Rattle.three.specs.Meaning.{three_meaning}
 
 -- a state of the three: the kinds of the operands, the top one first, the set of slots as a number, and the row
@@ -22,7 +21,7 @@ pub record Seen : Type 0 where
   pub row : RowState
 
 abbrev pub seen_state : Seen → Both Operands (Both SlotSet RowState)
-seen_state s = both (pack s.operands) (both (of_bits s.slots) s.row)
+seen_state s = both s.operands (both (of_bits s.slots) s.row)
 
 pub data Claim : Type 0 where
   -- this unit takes this vessel
@@ -40,8 +39,3 @@ Holds (makes p i s t) = (three_meaning p).after i (seen_state s) ≡ Ok (seen_st
 Holds (faults p i s l f d) =
     (e : Fault) × ((three_meaning p).after i (seen_state s) ≡ Err e) × (e.layer ≡ l) × (fault_number e.cause ≡ f) × (fault_detail e.cause ≡ d)
 Holds (writes p s bs) = (three_meaning p).bytes (seen_state s) ≡ bs
-
--- every claim of a list
-abbrev pub Every : List Claim → Type 0
-Every [] = Unit {0}
-Every (c ∷ cs) = Holds c × Every cs

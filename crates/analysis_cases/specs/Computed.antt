@@ -1,5 +1,6 @@
 -- Each claim as a test that computes.
-use Rattle.std.specs.Prelude.{ℕ, Bool, true, false, not, ◌&&◌, ◌||◌, List, [], ◌∷◌, length, pos, Ok, Err, Result, ◌==◌, nat_le, nat_lt, slice_index_or}
+use Rattle.std.specs.Prelude.{ℕ, nat_eq, Bool, true, false, not, ◌&&◌, ◌||◌, List, [], ◌∷◌, length, pos, Ok, Err, Result, ◌==◌, nat_le, nat_lt, slice_index_or}
+use Rattle.std.specs.Cmp.Lexicographic.{pointwise}
 use Rattle.kinds.specs.declared.kind.Kind.{Kind}
 use Rattle.kinds.specs.declared.kind.Kind.TheVariants.{Int, Null, Unusable, Class}
 use Rattle.format.specs.Bytes.{up_to}
@@ -9,12 +10,11 @@ use Rattle.machine.specs.Values.{Vessel}
 use Rattle.analysis_theory.specs.declared.both.Both.{Both}
 use Rattle.analysis_theory.specs.declared.fault.Fault.{Fault}
 use Rattle.analysis_theory.specs.Faults.{fault_number, fault_detail}
-use Rattle.types_theory.specs.declared.operands.Operands.{Operands}
-use Rattle.types_theory.specs.Packing.{stack}
-use Rattle.slots.specs.declared.set.SlotSet.{SlotSet}
-use Rattle.slots.specs.Sets.{of_bits}
-use Rattle.rows.specs.declared.state.RowState.{RowState}
-use Rattle.rows.specs.declared.state.RowState.TheVariants.{Empty, Held, Perhaps}
+use Rattle.types.specs.declared.operands.Operands.{Operands}
+use Rattle.slots_theory.specs.declared.set.SlotSet.{SlotSet}
+use Rattle.slots_theory.specs.Sets.{of_bits}
+use Rattle.rows_theory.specs.declared.state.RowState.{RowState}
+use Rattle.rows_theory.specs.declared.state.RowState.TheVariants.{Empty, Held, Perhaps}
 use Rattle.three.specs.Meaning.{three_meaning}
 use Rattle.cases.specs.Computed.{same_kind, tree_test, same_number}
 use Rattle.analysis_cases.specs.Claims.{Seen, seen_state, Claim, announces, makes, faults, writes}
@@ -39,7 +39,7 @@ same_row Perhaps Perhaps = true
 -- whether a state of the three is as it was described
 abbrev pub is_seen : Both Operands (Both SlotSet RowState) → Seen → Bool
 is_seen s t =
-    same_kinds (stack s.left) t.operands && (s.right.left.bits == (of_bits t.slots).bits && same_row s.right.right t.row)
+    same_kinds s.left t.operands && (s.right.left.bits == (of_bits t.slots).bits && same_row s.right.right t.row)
 
 abbrev pub made_as : Result (Both Operands (Both SlotSet RowState)) Fault → Seen → Bool
 made_as (Ok s) t = is_seen s t
@@ -48,12 +48,6 @@ made_as (Err f) t = false
 abbrev pub fault_is : Result (Both Operands (Both SlotSet RowState)) Fault → ℕ → ℕ → ℕ → Bool
 fault_is (Ok s) l f d = false
 fault_is (Err e) l f d = e.layer == l && (fault_number e.cause == f && fault_detail e.cause == d)
-
-abbrev pub same_bytes : List ℕ → List ℕ → Bool
-same_bytes [] [] = true
-same_bytes [] (b ∷ bs) = false
-same_bytes (a ∷ xs) [] = false
-same_bytes (a ∷ xs) (b ∷ bs) = a == b && same_bytes xs bs
 
 abbrev pub is_class_kind : Kind → Bool
 is_class_kind Int = false
@@ -76,8 +70,4 @@ abbrev pub test : Claim → Bool
 test (announces p v) = vessel_test p v
 test (makes p i s t) = made_as ((three_meaning p).after i (seen_state s)) t
 test (faults p i s l f d) = fault_is ((three_meaning p).after i (seen_state s)) l f d
-test (writes p s bs) = same_bytes ((three_meaning p).bytes (seen_state s)) bs
-
-abbrev pub test_all : List Claim → Bool
-test_all [] = true
-test_all (c ∷ cs) = test c && test_all cs
+test (writes p s bs) = pointwise nat_eq ((three_meaning p).bytes (seen_state s)) bs

@@ -14,24 +14,21 @@ unpack_join pack (Some a) s e = (a, refl, grind arith)
 unpack_join pack None s e = absurd (grind arith)
 
 unpack_none : {A S : Type 0} (pack : A → S) (o : Option A) → packed_join pack o ≡ None → o ≡ None
-unpack_none pack (Some a) e = absurd (grind arith)
-unpack_none pack None e = refl
+unpack_none pack o e = grind arith
 
 unpack_after : {A S : Type 0} (pack : A → S) (r : Result A Fault) (s : S) → packed_after pack r ≡ Ok s → (a : A) × (r ≡ Ok a) × (s ≡ pack a)
 unpack_after pack (Ok a) s e = (a, refl, grind arith)
 unpack_after pack (Err f) s e = absurd (grind arith)
 
 unpack_fault : {A S : Type 0} (pack : A → S) (r : Result A Fault) (f : Fault) → packed_after pack r ≡ Err f → r ≡ Err f
-unpack_fault pack (Ok a) f e = absurd (grind arith)
-unpack_fault pack (Err g) f e = let h : g ≡ f = grind arith in cc
+unpack_fault pack r f e = grind arith
 
 unpack_read : {A S : Type 0} (pack : A → S) (r : Result (Got A) Unreadable) (g : Got S) → packed_read pack r ≡ Ok g → (h : Got A) × (r ≡ Ok h) × (g.state ≡ pack h.state) × (g.length ≡ h.length)
 unpack_read pack (Ok h) g e = (h, refl, grind arith, grind arith)
 unpack_read pack (Err u) g e = absurd (grind arith)
 
 unpack_unread : {A S : Type 0} (pack : A → S) (r : Result (Got A) Unreadable) (u : Unreadable) → packed_read pack r ≡ Err u → r ≡ Err u
-unpack_unread pack (Ok g) u e = absurd (grind arith)
-unpack_unread pack (Err v) u e = let h : v ≡ u = grind arith in cc
+unpack_unread pack r u e = grind arith
 
 module _ {A S : Type 0} {p : Parts} {m : Meaning A} (view : S → A) (pack : A → S) (view_pack : (a : A) → m.is_state a ≡ true → view (pack a) ≡ a) (pack_view : (s : S) → pack (view s) ≡ s) (laws : Laws p m) where
   -- what the form of a state stands for

@@ -9,24 +9,16 @@ use Rattle.analysis_theory.specs.Methods.{ReadAs}
 use Rattle.analysis_theory.specs.Pairs.{both, both_join, both_after, got_both, then_read}
 
 pub joined_parts : {A B : Type 0} (x : Option A) (y : Option B) (c : Both A B) → both_join x y ≡ Some c → (x ≡ Some c.left) × (y ≡ Some c.right)
-joined_parts (Some a) (Some b) c e = (grind arith, grind arith)
-joined_parts (Some a) None c e = absurd (grind arith)
-joined_parts None y c e = absurd (grind arith)
+joined_parts x y c e = (grind arith, grind arith)
 
 pub refused_part : {A B : Type 0} (x : Option A) (y : Option B) → both_join x y ≡ None → (x ≡ None) ⊎ (y ≡ None)
-refused_part (Some a) (Some b) e = absurd (grind arith)
-refused_part (Some a) None e = inr refl
-refused_part None y e = inl refl
+refused_part x y e = grind arith
 
 pub after_parts : {A B : Type 0} (x : Result A Fault) (y : Result B Fault) (c : Both A B) → both_after x y ≡ Ok c → (x ≡ Ok c.left) × (y ≡ Ok c.right)
-after_parts (Ok a) (Ok b) c e = (grind arith, grind arith)
-after_parts (Ok a) (Err f) c e = absurd (grind arith)
-after_parts (Err f) y c e = absurd (grind arith)
+after_parts x y c e = (grind arith, grind arith)
 
 pub fault_part : {A B : Type 0} (x : Result A Fault) (y : Result B Fault) (f : Fault) → both_after x y ≡ Err f → (x ≡ Err f) ⊎ (y ≡ Err f)
-fault_part (Ok a) (Ok b) f e = absurd (grind arith)
-fault_part (Ok a) (Err g) f e = inr (grind arith)
-fault_part (Err g) y f e = inl (grind arith)
+fault_part x y f e = grind arith
 
 pub accepts_both : {A B : Type 0} (x : Result A Fault) (y : Result B Fault) (P : A → Type 0) (Q : B → Type 0) (R : Both A B → Type 0) → Accepts x P → Accepts y Q → ((c : Both A B) → P c.left → Q c.right → R c) → Accepts (both_after x y) R
 accepts_both (Ok a) (Ok b) P Q R h k f = f (both a b) h k
@@ -53,8 +45,7 @@ read_parts (Ok h) rest g e = got_parts h (rest h.length) rest g refl e
 read_parts (Err u) rest g e = absurd (grind arith)
 
 unread_right : {A B : Type 0} (h : Got A) (y : Result (Got B) Unreadable) (u : Unreadable) → got_both {A = A} h y ≡ Err u → y ≡ Err u
-unread_right h (Ok k) u e = absurd (grind arith)
-unread_right h (Err v) u e = grind arith
+unread_right h y u e = grind arith
 
 -- what a pair does not read, one of its parts does not read
 pub unread_part : {A B : Type 0} (x : Result (Got A) Unreadable) (rest : ℕ → Result (Got B) Unreadable) (u : Unreadable) → then_read x rest ≡ Err u → (x ≡ Err u) ⊎ ((n : ℕ) × (rest n ≡ Err u))

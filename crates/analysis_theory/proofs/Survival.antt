@@ -1,5 +1,6 @@
 -- A state that was written is read back.
-use Rattle.std.proofs.Common.{◌≡◌, ℕ, Bool, true, false, cond, List, ◌++◌, length, drop, Some, None, Ok, MatchBool, Option, Result, ap, ◌∙◌, subst, arith}
+use Rattle.std.proofs.Common.{◌≡◌, ℕ, Bool, true, false, cond, List, ◌++◌, length, drop, Some, None, Ok, MatchBool, Option, Result, sym, ap, ◌∙◌, subst}
+use Rattle.std.proofs.lemmas.Option.{none-some}
 use Rattle.format.specs.Parts.{Parts}
 use Rattle.analysis_theory.specs.declared.fault.Unreadable.{Unreadable}
 use Rattle.analysis_theory.specs.Meaning.{Meaning, Got}
@@ -12,7 +13,7 @@ module _ {S : Type 0} (m : Meaning S) (s : S) (out : List ℕ) where
   unwritten_survives r e f k = go (fits (m.bytes s) out) e
     where
       go : (b : Bool) → None ≡ cond b (Some (length (m.bytes s))) None → MatchBool b (r ≡ Some (Ok (s, length (m.bytes s)))) (r ≡ None)
-      go true h = absurd (let z : ◌≡◌ {A = ℕ} 0 1 = cc in omega arith)
+      go true h = absurd (none-some _ h)
       go false h = f
 
   -- what fits is read from the buffer, whatever stands behind it
@@ -24,4 +25,4 @@ module _ {S : Type 0} (m : Meaning S) (s : S) (out : List ℕ) where
           let g : m.parsed held ≡ Ok (record { state = s; length = length (m.bytes s) }) =
           ap m.parsed w ∙ laws.reads_back s (drop (length (m.bytes s)) out) k in
           ap Some (subst (λ (o : Result (Got S) Unreadable). ReadAs o r) g h)
-      go false q w = absurd (let z : ◌≡◌ {A = ℕ} 0 1 = cc in omega arith)
+      go false q w = absurd (none-some _ (sym q))

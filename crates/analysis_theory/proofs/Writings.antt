@@ -1,10 +1,11 @@
 -- Bytes put together and taken apart, and one writing after another: how long they are together, and what a buffer holds
 -- after both.
-use Rattle.std.proofs.Common.{◌≡◌, ℕ, ◌+◌, ◌-◌, ◌<◌, ◌≤◌, Bool, true, false, cond, ◌&&◌, leb, List, [], ◌++◌, length, take, drop, Some, None, Option, sym, refl, ap, ◌∙◌, subst, ⊎_elim, append_assoc, append-nil, arith, length-append, length-drop, get_or-drop, le-leb, leb-false, leb-true}
+use Rattle.std.proofs.Common.{◌≡◌, ℕ, ◌+◌, ◌-◌, ◌<◌, ◌≤◌, true, false, List, [], ◌++◌, length, take, drop, Some, None, sym, refl, ap, ◌∙◌, subst, ⊎_elim, append_assoc, append-nil, arith, length-append, length-drop, get_or-drop, le-leb}
 use borrow.Rule.Slice.PartMut.{put_mid}
 use Rattle.std.proofs.lemmas.List.{get_or_append_left, get_or-append_right, take_rest, take_at, drop_at, drop_all, drop-drop}
 use borrow.Author.Tests.{lt-leb}
-use Rattle.std.proofs.lemmas.Bool.{cases_lt}
+use Rattle.std.proofs.lemmas.Bool.{and_right, cases_lt}
+use Rattle.std.proofs.lemmas.Bool.Decides.{nat_tests}
 use Rattle.format.specs.Bytes.{AllBytes}
 use Rattle.analysis_theory.specs.Methods.{size_of, fits, written_in, written_length}
 
@@ -23,19 +24,11 @@ bytes_drop n xs h i l =
 
 -- where there is a size, it is the length, and a field can hold it
 pub size_some : (bs : List ℕ) (n : ℕ) → Some n ≡ size_of bs → (n ≡ length bs) × (length bs ≤ 65533)
-size_some bs n e = go (leb (length bs) 65533) refl e
-  where
-    go : (b : Bool) → leb (length bs) 65533 ≡ b → Some n ≡ cond b (Some (length bs)) None → (n ≡ length bs) × (length bs ≤ 65533)
-    go true t h = (cc, leb-true _ _ t)
-    go false t h = let z : ◌≡◌ {A = ℕ} 0 1 = cc in absurd (omega arith)
+size_some bs n e = (grind (arith, nat_tests), grind (arith, nat_tests))
 
 -- where there is none, no field can hold it
 pub size_none : (bs : List ℕ) → None ≡ size_of bs → 65533 < length bs
-size_none bs e = go (leb (length bs) 65533) refl e
-  where
-    go : (b : Bool) → leb (length bs) 65533 ≡ b → None ≡ cond b (Some (length bs)) None → 65533 < length bs
-    go true t h = let z : ◌≡◌ {A = ℕ} 0 1 = cc in absurd (omega arith)
-    go false t h = leb-false _ _ t
+size_none bs e = grind (arith, nat_tests)
 
 pub some_size : (bs : List ℕ) → length bs ≤ 65533 → Some (length bs) ≡ size_of bs
 some_size bs l = rw (le-leb (length bs) 65533 l) refl
@@ -59,23 +52,16 @@ module _ (xs ys : List ℕ) where
       ap Some s ∙ some_size (xs ++ ys) (omega (arith, s, l))
 
 pub some_written : (bs out : List ℕ) (n : ℕ) → fits bs out ≡ true → Some n ≡ written_length bs out → n ≡ length bs
-some_written bs out n f e = let h : Some n ≡ Some (length bs) = rw f at e in cc
+some_written bs out n f e = grind arith
 
 pub none_written : (bs out : List ℕ) → fits bs out ≡ true → None ≡ written_length bs out → ⊥
-none_written bs out f e =
-    let h : ◌≡◌ {A = Option ℕ} None (Some (length bs)) = rw f at e in
-    let z : ◌≡◌ {A = ℕ} 0 1 = cc in
-    omega arith
+none_written bs out f e = grind arith
 
 pub written_held : (bs out held : List ℕ) → fits bs out ≡ true → held ≡ written_in bs out → held ≡ bs ++ drop (length bs) out
 written_held bs out held f e = rw f at e
 
 pub no_room : (bs out : List ℕ) → length out < length bs → fits bs out ≡ false
-no_room bs out l = rw (lt-leb (length bs) (length out) l) (and_false (leb (length bs) 65533))
-  where
-    and_false : (b : Bool) → (b && false) ≡ false
-    and_false true = refl
-    and_false false = refl
+no_room bs out l = and_right _ _ (lt-leb (length bs) (length out) l)
 
 pub has_room : (bs out : List ℕ) → length bs ≤ 65533 → length bs ≤ length out → fits bs out ≡ true
 has_room bs out l r = rw (le-leb (length bs) 65533 l, le-leb (length bs) (length out) r) refl

@@ -1,6 +1,7 @@
 -- The numbers of faults, which are those of the tagged machine, and what a fault says besides.
 use Rattle.std.specs.Prelude.{ℕ}
 use Rattle.analysis_theory.specs.declared.fault.Cause.{Cause}
+use Rattle.analysis_theory.specs.declared.fault.Fault.{Fault}
 use Rattle.analysis_theory.specs.declared.fault.Cause.TheVariants.{TooFew, TooDeep, Misfit, Unset, RowHeld, NoRow, Outside}
 
 abbrev pub fault_number : Cause → ℕ
@@ -20,3 +21,7 @@ fault_detail (Unset n) = n
 fault_detail RowHeld = 0
 fault_detail NoRow = 0
 fault_detail Outside = 0
+
+-- a fault of the analysis with this layer
+abbrev pub fault_under : ℕ → Cause → Fault
+fault_under n c = record { layer = n; cause = c }

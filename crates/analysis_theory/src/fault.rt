@@ -1,8 +1,8 @@
 ghost use Rattle.std.specs.Prelude.{◌≡◌};
-ghost use Rattle.analysis_theory.specs.Faults.{fault_number, fault_detail};
+ghost use Rattle.analysis_theory.specs.Faults.{fault_number, fault_detail, fault_under};
 
 /// What is wrong with an instruction in a state.
-#[derive(Clone, Copy)]
+#[derive(Clone, Copy, Debug, PartialEq, Eq, Hash)]
 pub enum Cause {
     /// There are fewer operands than the instruction takes.
     TooFew,
@@ -20,6 +20,7 @@ pub enum Cause {
     Outside,
 }
 
+// `number` and `detail` are kept as methods, and no `From`: they are two numbers of one cause, and `From` could give only one.
 impl Cause {
     /// The number of the fault.
     pub fn number(self) -> u8
@@ -46,21 +47,30 @@ impl Cause {
             Cause::TooFew | Cause::TooDeep | Cause::RowHeld | Cause::NoRow | Cause::Outside => 0,
         }
     }
+
+    /// The fault of this cause under the layer of an analysis.
+    pub fn under(self, layer: u8) -> Fault
+        ensures { result ≡ fault_under layer self }
+    {
+        Fault { layer, cause: self }
+    }
 }
 
 /// An analysis refuses an instruction in a state: which one refuses, by its layer, and why.
-#[derive(Clone, Copy)]
+// The layer is kept as a number: the analyses behind the interface are open, and a type around it would say no more.
+#[derive(Clone, Copy, Debug, PartialEq, Eq, Hash)]
 pub struct Fault {
     pub layer: u8,
     pub cause: Cause,
 }
 
 /// Two states have no state above both.
-#[derive(Clone, Copy)]
+#[derive(Clone, Copy, Debug, PartialEq, Eq, Hash)]
 pub struct NoJoin;
 
 /// Bytes do not begin with the writing of a state: which analysis says so, by its layer.
-#[derive(Clone, Copy)]
+// The layer is kept as a number, as that of a fault is.
+#[derive(Clone, Copy, Debug, PartialEq, Eq, Hash)]
 pub struct Unreadable {
     pub layer: u8,
 }

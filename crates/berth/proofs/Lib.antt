@@ -1,2 +1,1 @@
-mod Commands
-mod Marks
+pub mod Commands

@@ -2,7 +2,8 @@ ghost use Rattle.std.specs.Prelude.{[], ◌∷◌, map, string_bytes};
 ghost use Rattle.berth.specs.Commands.{Asks};
 
 /// What the program is asked to do.
-#[derive(Clone, Copy)]
+// Kept beside `Command` of `views`: the two programs take different words.
+#[derive(Clone, Copy, Debug, PartialEq, Eq)]
 pub enum Command<'a> {
     /// Show the built-in rule.
     Builtin,
@@ -12,6 +13,7 @@ pub enum Command<'a> {
 
 impl<'a> Command<'a> {
     /// The command that the words after the program's name give, or none where they give none.
+    #[tactic(auto, using(listing::proofs::Words::no_words, listing::proofs::Words::two_words, crate::proofs::Commands::no_command))]
     pub fn parse(words: &'a [String]) -> Option<Command<'a>>
         ensures { Asks (map string_bytes words.now) result }
     {

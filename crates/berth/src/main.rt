@@ -2,68 +2,41 @@
 #![tactic(auto)]
 
 mod command;
-mod explain;
-mod failure;
-mod kind;
-mod listing;
-mod operand;
-mod show;
 
 use command::Command;
-use failure::Failure;
-use show::Shown;
+use listing::failure::Failure;
+use listing::program::{Program, arguments, bytes_of};
+use listing::show::Shown;
 use std::process::ExitCode;
-use std::{env, fs, io};
 use unit::read::read;
 use unit::unit::Unit;
 
-/// The words of the command line, without the program's own name.
-fn words(rt: &HostRuntime) -> io::Result<Vec<String>> {
-    Ok(env::args(rt)?.skip(1).collect(rt.alloc())?)
-}
-
-/// The same, or why they cannot be had.
-fn arguments<'a>(rt: &HostRuntime) -> Result<Vec<String>, Failure<'a>> {
-    match words(rt) {
-        Ok(words) => Ok(words),
-        Err(error) => Err(Failure::Arguments(error)),
-    }
-}
-
-/// Prints a unit.
-fn print_unit(rt: &HostRuntime, unit: Unit) -> io::Result<()> {
-    rt.print(Shown(unit))
-}
+const BERTH: Program = Program {
+    name: "berth",
+    usage: "usage: berth              shows the built-in rule
+       berth show FILE    shows the unit in a file",
+};
 
 /// Reads a file and prints the unit that it holds.
 fn show_file<'a>(rt: &HostRuntime, file: &'a str) -> Result<(), Failure<'a>> {
-    let bytes = match fs::read(rt, file) {
-        Ok(bytes) => bytes,
-        Err(error) => return Err(Failure::Input(file, error)),
-    };
+    let bytes = bytes_of(rt, file)?;
     let mut unit = Unit::builtin();
-    match read(bytes.as_slice(), &mut unit) {
-        Ok(()) => Ok(print_unit(rt, unit)?),
-        Err(error) => Err(Failure::Refused(error)),
-    }
+    read(bytes.as_slice(), &mut unit)?;
+    Ok(rt.print(Shown(unit))?)
 }
 
 /// Does what the words of a command line ask for.
 fn run<'a>(rt: &HostRuntime, words: &'a [String]) -> Result<(), Failure<'a>> {
-    match Command::parse(words) {
-        Some(Command::Builtin) => Ok(print_unit(rt, Unit::builtin())?),
-        Some(Command::Show(file)) => show_file(rt, file),
-        None => Err(Failure::Usage),
+    match Command::parse(words).ok_or(Failure::Usage)? {
+        Command::Builtin => Ok(rt.print(Shown(Unit::builtin()))?),
+        Command::Show(file) => show_file(rt, file),
     }
 }
 
+// Kept beside that of `berth_effects`, no plainer: what the two run has other commands.
 fn main(rt: HostRuntime) -> ExitCode {
-    let words = match arguments(&rt) {
-        Ok(words) => words,
-        Err(failure) => return failure.tell(&rt),
-    };
-    match run(&rt, words.as_slice()) {
-        Ok(()) => ExitCode::SUCCESS,
-        Err(failure) => failure.tell(&rt),
+    match arguments(&rt) {
+        Ok(words) => BERTH.finish(&rt, run(&rt, words.as_slice())),
+        Err(failure) => BERTH.finish(&rt, Err(failure)),
     }
 }

@@ -1,4 +1,3 @@
-use crate::instruction::InstructionWords;
 use crate::state::StateWords;
 use opcodes::opcode::Instruction;
 use std::fmt;
@@ -36,7 +35,7 @@ fn line<W: fmt::Write>(
     f: &mut fmt::Formatter<W>,
 ) -> fmt::Result {
     let at = way.at;
-    let words = InlineText::<WIDTH>::of(InstructionWords(instruction));
+    let words = InlineText::<WIDTH>::of(instruction);
     let text = words.as_str();
     writeln!(f, "{at:>6}  {text:<17}  {}", StateWords(way.state))
 }
@@ -45,7 +44,7 @@ fn line<W: fmt::Write>(
 fn ending<W: fmt::Write>(end: End, f: &mut fmt::Formatter<W>) -> fmt::Result {
     match end {
         End::Returned => Ok(()),
-        End::Refused(at, fault) => {
+        End::Refused { at, fault } => {
             let layer = fault.layer;
             let number = fault.cause.number();
             let detail = fault.cause.detail();

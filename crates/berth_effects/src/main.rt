@@ -1,37 +1,26 @@
-//! The program `berth_effects` shows rule units, the built-in rule or the unit that a file holds, and what the analyses say of them.
+//! The program `berth_effects` shows rule units, the built-in rule or the unit that a file holds, and what the analyses say
+//! of them.
 #![tactic(auto)]
 
 mod effects;
-mod explain;
-mod failure;
-mod instruction;
-mod kind;
-mod listing;
-mod operand;
-mod show;
 mod state;
 
 use effects::Effects;
-use failure::Failure;
-use show::Shown;
+use listing::failure::Failure;
+use listing::program::{Program, arguments, bytes_of};
+use listing::show::Shown;
+use std::io;
 use std::process::ExitCode;
-use std::{env, fs, io};
 use unit::read::read;
 use unit::unit::Unit;
 use views::command::{Command, View};
 
-/// The words of the command line, without the program's own name.
-fn words(rt: &HostRuntime) -> io::Result<Vec<String>> {
-    Ok(env::args(rt)?.skip(1).collect(rt.alloc())?)
-}
-
-/// The same, or why they cannot be had.
-fn arguments<'a>(rt: &HostRuntime) -> Result<Vec<String>, Failure<'a>> {
-    match words(rt) {
-        Ok(words) => Ok(words),
-        Err(error) => Err(Failure::Arguments(error)),
-    }
-}
+const BERTH_EFFECTS: Program = Program {
+    name: "berth_effects",
+    usage: "usage: berth_effects                   shows the built-in rule, and what the analyses say of it
+       berth_effects show FILE         shows the unit in a file
+       berth_effects effects [FILE]    shows what the analyses say of the unit in a file, or of the built-in rule",
+};
 
 /// Prints a view of a unit.
 fn print_unit(rt: &HostRuntime, view: View, unit: Unit) -> io::Result<()> {
@@ -50,34 +39,25 @@ fn print_builtin(rt: &HostRuntime) -> io::Result<()> {
 
 /// Reads a file and prints a view of the unit that it holds.
 fn print_file<'a>(rt: &HostRuntime, view: View, file: &'a str) -> Result<(), Failure<'a>> {
-    let bytes = match fs::read(rt, file) {
-        Ok(bytes) => bytes,
-        Err(error) => return Err(Failure::Input(file, error)),
-    };
+    let bytes = bytes_of(rt, file)?;
     let mut unit = Unit::builtin();
-    match read(bytes.as_slice(), &mut unit) {
-        Ok(()) => Ok(print_unit(rt, view, unit)?),
-        Err(error) => Err(Failure::Refused(error)),
-    }
+    read(bytes.as_slice(), &mut unit)?;
+    Ok(print_unit(rt, view, unit)?)
 }
 
 /// Does what the words of a command line ask for.
 fn run<'a>(rt: &HostRuntime, words: &'a [String]) -> Result<(), Failure<'a>> {
-    match Command::parse(words) {
-        Some(Command::Builtin) => Ok(print_builtin(rt)?),
-        Some(Command::Effects) => Ok(print_unit(rt, View::Effects, Unit::builtin())?),
-        Some(Command::OnFile(view, file)) => print_file(rt, view, file),
-        None => Err(Failure::Usage),
+    match Command::parse(words).ok_or(Failure::Usage)? {
+        Command::Builtin => Ok(print_builtin(rt)?),
+        Command::Effects => Ok(print_unit(rt, View::Effects, Unit::builtin())?),
+        Command::OnFile { view, file } => print_file(rt, view, file),
     }
 }
 
+// Kept beside that of `berth`, no plainer: what the two run has other commands.
 fn main(rt: HostRuntime) -> ExitCode {
-    let words = match arguments(&rt) {
-        Ok(words) => words,
-        Err(failure) => return failure.tell(&rt),
-    };
-    match run(&rt, words.as_slice()) {
-        Ok(()) => ExitCode::SUCCESS,
-        Err(failure) => failure.tell(&rt),
+    match arguments(&rt) {
+        Ok(words) => BERTH_EFFECTS.finish(&rt, run(&rt, words.as_slice())),
+        Err(failure) => BERTH_EFFECTS.finish(&rt, Err(failure)),
     }
 }

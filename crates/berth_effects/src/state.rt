@@ -1,11 +1,11 @@
-use crate::kind::KindName;
-use rows::state::RowState;
-use slots::set::SlotSet;
+use rows_theory::state::RowState;
+use slots_theory::set::SlotSet;
 use std::fmt;
-use types_theory::operands::Operands;
+use types::operands::Operands;
 use views::way::State;
 
 /// The state of the three analyses, to be printed in words.
+// kept as a wrapper: the state's types belong to the crates of the analyses, and these words are this program's own
 #[derive(Clone, Copy)]
 pub struct StateWords(pub State);
 
@@ -22,11 +22,11 @@ impl fmt::Display for StateWords {
 
 /// The kinds of the operands, from the bottom up.
 fn operands<W: fmt::Write>(operands: &Operands, f: &mut fmt::Formatter<W>) -> fmt::Result {
-    if operands.depth == 0 {
+    if operands.is_empty() {
         return f.write_str(" none");
     }
-    for kind in operands.kinds[0..operands.depth].iter() {
-        write!(f, " {}", KindName(*kind))?;
+    for kind in operands.as_slice() {
+        write!(f, " {kind}")?;
     }
     Ok(())
 }
@@ -36,10 +36,8 @@ fn slots<W: fmt::Write>(set: SlotSet, f: &mut fmt::Formatter<W>) -> fmt::Result 
     if set.bits == 0 {
         return f.write_str(" none");
     }
-    for slot in 0..32 {
-        if set.contains(slot) {
-            write!(f, " {slot}")?;
-        }
+    for slot in (0..32).filter(|slot| set.contains(*slot)) {
+        write!(f, " {slot}")?;
     }
     Ok(())
 }

@@ -1,5 +1,9 @@
 -- A claim whose test passes holds.
 use Rattle.std.proofs.Common.{◌≡◌, ℕ, zero, suc, ◌+◌, ◌-◌, ◌<◌, Bool, true, false, cond, ◌&&◌, ◌||◌, eqb, ltb, List, [], ◌∷◌, length, ℤ, pos, negsuc, is_ok, Some, None, Ok, Err, Option, Result, sym, refl, ap, ◌∙◌, subst, inl, inr, ⊎_elim, arith}
+use Rattle.std.specs.Prelude.{All}
+use Rattle.std.specs.List.{list_all}
+use Rattle.std.proofs.lemmas.List.Sums.{AllPass-from_list_all}
+use Rattle.std.proofs.lemmas.Option.{same_Some}
 use Rattle.std.proofs.lemmas.Bool.{and_parts, or_cases, eqb-true, eqb-false, ltb-true, ltb-false, true≢false, false≢true}
 use Rattle.kinds.specs.declared.kind.Kind.{Kind}
 use Rattle.kinds.specs.declared.kind.Kind.TheVariants.{Int, Null, Unusable, Class}
@@ -17,10 +21,10 @@ use Rattle.lattice.proofs.Plain.{below_equal, least_above, least_swap, int_least
 use Rattle.lattice.proofs.Joins.{climb_least, lone_least}
 use Rattle.machine.specs.Configuration.{Configuration, Outcome, goes, returned, stopped, fault}
 use Rattle.machine.specs.Runs.{start, steps}
-use Rattle.cases.specs.Claims.{Claim, reads, refuses, least, runs, Holds, Every}
-use Rattle.cases.specs.Computed.{climb, least_of, same_kind, is_kind, tree_test, same_refusal, refused_with, same_number, ends_alike, goes_on, test, test_all}
+use Rattle.cases.specs.Claims.{Claim, reads, refuses, least, runs, Holds}
+use Rattle.cases.specs.Computed.{climb, least_of, same_kind, is_kind, tree_test, same_refusal, refused_with, same_number, ends_alike, goes_on, test}
 
-tree_lower : (p : Parts) → tree_test p ≡ true → Lower p
+pub tree_lower : (p : Parts) → tree_test p ≡ true → Lower p
 tree_lower p t c z l =
     ⊎_elim (λ (e : eqb c 0 ≡ true). absurd (omega (arith, eqb-true c 0 e))) (λ (e : ltb (parent_of p c) c ≡ true). ltb-true (parent_of p c) c e)
     (or_cases (eqb c 0) (ltb (parent_of p c) c) (up_to_at (λ d. eqb d 0 || ltb (parent_of p d) d) (length p.classes) c t l))
@@ -28,26 +32,23 @@ tree_lower p t c z l =
 equal_least : (p : Parts) (c d : ℕ) → c ≡ d → Least p (Class c) (Class d) (Class c)
 equal_least p c d e = least_swap p (Class d) (Class c) (Class c) (least_above p (Class d) (Class c) (Class c) (below_equal p (Class d) (Class c) (ap Class (sym e))) refl)
 
-is_some : (j k : Kind) → Some j ≡ Some k → j ≡ k
-is_some j k h = cc
-
 climbed : (p : Parts) → Lower p → (n c d : ℕ) (k : Kind) → climb p n c d ≡ Some k → Least p (Class c) (Class d) k
 climbed p low zero c d k h = let z : ◌≡◌ {A = ℕ} 0 1 = cc in absurd (omega arith)
 climbed p low (suc n) c d k h =
     step (eqb c d) (ltb d c) (ltb c (length p.classes)) (ltb d (length p.classes)) refl refl refl refl h (climbed p low n (parent_of p c) d k) (climbed p low n c (parent_of p d) k)
   where
     step : (a b x y : Bool) → eqb c d ≡ a → ltb d c ≡ b → ltb c (length p.classes) ≡ x → ltb d (length p.classes) ≡ y → cond a (Some (Class c)) (cond b (cond x (climb p n (parent_of p c) d) (Some Unusable)) (cond y (climb p n c (parent_of p d)) (Some Unusable))) ≡ Some k → (climb p n (parent_of p c) d ≡ Some k → Least p (Class (parent_of p c)) (Class d) k) → (climb p n c (parent_of p d) ≡ Some k → Least p (Class c) (Class (parent_of p d)) k) → Least p (Class c) (Class d) k
-    step true b x y e f g i r left right = subst (λ (m : Kind). Least p (Class c) (Class d) m) (is_some (Class c) k r) (equal_least p c d (eqb-true c d e))
+    step true b x y e f g i r left right = subst (λ (m : Kind). Least p (Class c) (Class d) m) (same_Some (Class c) k r) (equal_least p c d (eqb-true c d e))
     step false true true y e f g i r left right = climb_least p low c d (parent_of p c) k (ltb-true d c f) (ltb-true c _ g) refl (left r)
-    step false true false y e f g i r left right = subst (λ (m : Kind). Least p (Class c) (Class d) m) (is_some Unusable k r) (lone_least p low c d (ltb-true d c f) (ltb-false c _ g))
+    step false true false y e f g i r left right = subst (λ (m : Kind). Least p (Class c) (Class d) m) (same_Some Unusable k r) (lone_least p low c d (ltb-true d c f) (ltb-false c _ g))
     step false false x true e f g i r left right =
         let l : c < d = omega (arith, ltb-false d c f, eqb-false c d e) in
         least_swap p (Class d) (Class c) k (climb_least p low d c (parent_of p d) k l (ltb-true d _ i) refl (least_swap p (Class c) (Class (parent_of p d)) k (right r)))
     step false false x false e f g i r left right =
         let l : c < d = omega (arith, ltb-false d c f, eqb-false c d e) in
-        subst (λ (m : Kind). Least p (Class c) (Class d) m) (is_some Unusable k r) (least_swap p (Class d) (Class c) Unusable (lone_least p low d c l (ltb-false d _ i)))
+        subst (λ (m : Kind). Least p (Class c) (Class d) m) (same_Some Unusable k r) (least_swap p (Class d) (Class c) Unusable (lone_least p low d c l (ltb-false d _ i)))
 
-same_kind_sound : (j k : Kind) → same_kind j k ≡ true → j ≡ k
+pub same_kind_sound : (j k : Kind) → same_kind j k ≡ true → j ≡ k
 same_kind_sound Int Int t = refl
 same_kind_sound Int Null t = absurd (false≢true t)
 same_kind_sound Int Unusable t = absurd (false≢true t)
@@ -75,7 +76,7 @@ apart a b f e = false≢true (sym f ∙ subst (λ (x : Kind). same_kind a x ≡ 
     itself (Class c) = Rattle.std.proofs.lemmas.Bool.eq-eqb c c refl
 
 found : (p : Parts) (a b j k : Kind) → Some j ≡ Some k → Least p a b j → Least p a b k
-found p a b j k h l = subst (λ (m : Kind). Least p a b m) (is_some j k h) l
+found p a b j k h l = subst (λ (m : Kind). Least p a b m) (same_Some j k h) l
 
 computed_least : (p : Parts) → Lower p → (a b k : Kind) → least_of p a b ≡ Some k → Least p a b k
 computed_least p low Int Int k h = found p Int Int Int k h (least_above p Int Int Int same refl)
@@ -119,7 +120,7 @@ least_holds p a b k t =
     step None h u low = absurd (false≢true u)
     step (Some j) h u low = computed_least p low a b k (h ∙ ap Some (same_kind_sound j k u))
 
-same_number_sound : (a b : ℤ) → same_number a b ≡ true → a ≡ b
+pub same_number_sound : (a b : ℤ) → same_number a b ≡ true → a ≡ b
 same_number_sound (pos a) (pos b) t = ap pos (eqb-true a b t)
 same_number_sound (pos a) (negsuc b) t = absurd (false≢true t)
 same_number_sound (negsuc a) (pos b) t = absurd (false≢true t)
@@ -154,6 +155,6 @@ holds (runs p v n o) t =
     let s = and_parts (goes_on (steps p (n - 1) (start p v))) (ends_alike (steps p n (start p v)) o) t in
     (still_going (steps p (n - 1) (start p v)) s.0, ended_alike (steps p n (start p v)) o s.1)
 
-pub every_holds : (cs : List Claim) → test_all cs ≡ true → Every cs
-every_holds [] t = tt
-every_holds (c ∷ cs) t = let s = and_parts (test c) (test_all cs) t in (holds c s.0, every_holds cs s.1)
+-- every claim of a list
+pub every_holds : (cs : List Claim) → list_all test cs ≡ true → All Holds cs
+every_holds cs t = λ k d l. holds _ (AllPass-from_list_all test cs t k d l)

@@ -1,5 +1,5 @@
 -- What a worked example can claim, and what each claim means, over the definitions that the contracts use.
-use Rattle.std.specs.Prelude.{◌≡◌, ℕ, ◌-◌, true, List, [], ◌∷◌, length, is_ok, Err}
+use Rattle.std.specs.Prelude.{◌≡◌, ℕ, ◌-◌, true, List, length, is_ok, Err}
 use Rattle.kinds.specs.declared.kind.Kind.{Kind}
 use Rattle.format.specs.declared.refusal.ReadError.{ReadError}
 use Rattle.format.specs.declared.refusal.Refusal.{Refusal}
@@ -27,8 +27,3 @@ Holds (reads p n) = (length (encode p) ≡ n) × (is_ok (reading (encode p)) ≡
 Holds (refuses bs r) = (e : ReadError) × (reading bs ≡ Err e) × (read_refusal e ≡ r)
 Holds (least p a b k) = Least p a b k
 Holds (runs p v n o) = ((c : Configuration) × (steps p (n - 1) (start p v) ≡ goes c)) × (steps p n (start p v) ≡ o)
-
--- every claim of a list
-abbrev pub Every : List Claim → Type 0
-Every [] = Unit {0}
-Every (c ∷ cs) = Holds c × Every cs

@@ -106,7 +106,3 @@ test (reads p n) = length (encode p) == n && is_ok (reading (encode p))
 test (refuses bs r) = refused_with (reading bs) r
 test (least p a b k) = tree_test p && is_kind (least_of p a b) k
 test (runs p v n o) = goes_on (steps p (n - 1) (start p v)) && ends_alike (steps p n (start p v)) o
-
-abbrev pub test_all : List Claim → Bool
-test_all [] = true
-test_all (c ∷ cs) = test c && test_all cs

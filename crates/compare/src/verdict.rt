@@ -1,4 +1,5 @@
 use crate::digest::Digest;
+use format::refusal::Refusal;
 use std::fmt;
 use unit::read::read;
 use unit::unit::Unit;
@@ -17,7 +18,7 @@ impl<'a> fmt::Display for Verdict<'a> {
         let mut unit = Unit::builtin();
         match read(self.bytes, &mut unit) {
             Ok(()) => accepted(&unit, f),
-            Err(error) => write!(f, "refused {}", error.refusal()),
+            Err(error) => write!(f, "refused {}", Refusal::from(error)),
         }
     }
 }

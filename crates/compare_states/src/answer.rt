@@ -5,6 +5,7 @@ use std::fmt;
 use unit::unit::Unit;
 
 /// More bytes than any state is written in.
+// kept as an array with a length beside it: `Analysis::write` fills what its caller lends, a rule of the project
 const ROOM: usize = 64;
 
 /// The answer of an analysis to a query on a unit: how both states were read, the orders and the join if both were, and the

@@ -5,6 +5,7 @@ use corpus::query::{Choice, Query};
 use rows::rows::Rows;
 use slots::slots::Slots;
 use std::fmt;
+use three::three;
 use types::types::Types;
 use unit::unit::Unit;
 
@@ -26,16 +27,7 @@ impl<'a> fmt::Display for Line<'a> {
             Choice::Types => self.answer(Types, f),
             Choice::Slots => self.answer(Slots, f),
             Choice::Rows => self.answer(Rows, f),
-            Choice::Three => self.answer(
-                Pair {
-                    left: Types,
-                    right: Pair {
-                        left: Slots,
-                        right: Rows,
-                    },
-                },
-                f,
-            ),
+            Choice::Three => self.answer(three(), f),
             Choice::RowsTypes => self.answer(
                 Pair {
                     left: Rows,

@@ -4,9 +4,9 @@
 mod answer;
 mod line;
 
-use anyhow::anyhow;
+use anyhow::{anyhow, ensure};
 use corpus::block::Block;
-use corpus::cursor::Cursor;
+use corpus::piece::Pieces;
 use corpus::query::Query;
 use line::Line;
 use std::{env, fs};
@@ -20,11 +20,8 @@ fn print_lines<'a>(
     unit: Unit<'a>,
     queries: &'a [u8],
 ) -> anyhow::Result<()> {
-    let mut cursor = Cursor { rest: queries };
-    for number in 0..queries.len() {
-        let Some(query) = Query::next(&mut cursor) else {
-            break;
-        };
+    let mut queries = Pieces::<Query>::new(queries);
+    for (number, query) in queries.by_ref().enumerate() {
         rt.println(Line {
             block,
             number,
@@ -32,36 +29,35 @@ fn print_lines<'a>(
             query,
         })?;
     }
-    if !cursor.rest.is_empty() {
-        return Err(anyhow!("not a whole number of queries"));
-    }
+    ensure!(
+        queries.cursor.rest.is_empty(),
+        "not a whole number of queries"
+    );
     Ok(())
 }
 
 /// Prints the lines of a block.
 fn print_block(rt: &HostRuntime, number: usize, block: Block) -> anyhow::Result<()> {
     let mut unit = Unit::builtin();
-    match read(block.unit, &mut unit) {
-        Ok(()) => print_lines(rt, number, unit, block.queries),
-        Err(_) => Err(anyhow!("a block without a unit")),
-    }
+    read(block.unit, &mut unit).map_err(|_| anyhow!("a block without a unit"))?;
+    print_lines(rt, number, unit, block.queries)
 }
 
 /// Prints the lines of all blocks.
 fn print_blocks(rt: &HostRuntime, bytes: &[u8]) -> anyhow::Result<()> {
-    let mut cursor = Cursor { rest: bytes };
-    for number in 0..bytes.len() {
-        let Some(block) = Block::next(&mut cursor) else {
-            break;
-        };
+    let mut blocks = Pieces::<Block>::new(bytes);
+    for (number, block) in blocks.by_ref().enumerate() {
         print_block(rt, number, block)?;
     }
-    if !cursor.rest.is_empty() {
-        return Err(anyhow!("not a whole number of blocks"));
-    }
+    ensure!(
+        blocks.cursor.rest.is_empty(),
+        "not a whole number of blocks"
+    );
     Ok(())
 }
 
+/// Prints the lines of each file that the command line names.
+// Kept beside that of `compare`, no plainer: a shared one would bring the runtime and its errors into `corpus`.
 fn run(rt: &HostRuntime) -> anyhow::Result<()> {
     for file in env::args(rt)?.skip(1) {
         let bytes = fs::read(rt, file.as_str())?;

@@ -2,6 +2,7 @@
 use Rattle.std.specs.Prelude.{◌≡◌, ℕ, ◌+◌, ◌*◌, ◌<◌, ◌≤◌, List, length, take, drop, Some, None, Option, slice_index}
 use Rattle.std.specs.Borrow.{Bor}
 use Rattle.corpus.specs.declared.cursor.Cursor.{Cursor}
+use Rattle.corpus.specs.declared.unit_bytes.UnitBytes.{UnitBytes}
 
 -- the number that bytes begin with, in two bytes and in four
 abbrev pub two_bytes : List ℕ → ℕ
@@ -27,6 +28,9 @@ Takes n Is before (Some x) after = (n ≤ length (left before)) × Is x × (left
 abbrev pub TakesPart : ℕ → Cursor → Option (Bor (List ℕ)) → Cursor → Type 0
 TakesPart n before r after = Takes n (IsPart 0 n (left before)) before r after
 
+abbrev pub TakesArray : ℕ → Cursor → Option (List ℕ) → Cursor → Type 0
+TakesArray n before r after = Takes n (λ bytes. bytes ≡ take n (left before)) before r after
+
 abbrev pub TakesByte : Cursor → Option ℕ → Cursor → Type 0
 TakesByte before r after = Takes 1 (λ b. b ≡ slice_index (left before) 0) before r after
 
@@ -46,3 +50,9 @@ abbrev pub TakesBlob : Cursor → Option (Bor (List ℕ)) → Cursor → Type 0
 TakesBlob before r after =
     let n = four_bytes (left before) in
     Takes (4 + n) (IsPart 4 n (left before)) before r after
+
+-- a unit's bytes are taken as a blob is
+abbrev pub TakesUnit : Cursor → Option UnitBytes → Cursor → Type 0
+TakesUnit before r after =
+    let n = four_bytes (left before) in
+    Takes (4 + n) (λ unit. IsPart 4 n (left before) unit.bytes) before r after

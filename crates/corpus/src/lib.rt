@@ -3,4 +3,6 @@
 
 pub mod block;
 pub mod cursor;
+pub mod piece;
 pub mod query;
+pub mod unit_bytes;

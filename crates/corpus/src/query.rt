@@ -1,11 +1,11 @@
-ghost use Rattle.std.specs.Prelude.{◌≡◌};
-ghost use Rattle.corpus.specs.Choices.{choice_of};
+ghost use Rattle.corpus.specs.Choices.{Chosen};
 ghost use Rattle.corpus.specs.Queries.{TakesQuery};
 
 use crate::cursor::Cursor;
+use crate::piece::Piece;
 
 /// The analyses that a query can be about.
-#[derive(Clone, Copy)]
+#[derive(Clone, Copy, Debug, PartialEq, Eq)]
 pub enum Choice {
     Types,
     Slots,
@@ -16,25 +16,30 @@ pub enum Choice {
     RowsTypes,
 }
 
-impl Choice {
-    /// The choice that a number stands for, if it stands for one.
-    fn from_number(number: u8) -> Option<Choice>
-        ensures { result ≡ choice_of number }
-    {
+/// A number that stands for no analysis.
+#[derive(Clone, Copy, Debug, PartialEq, Eq)]
+pub struct UnknownChoice(pub u8);
+
+impl TryFrom<u8> for Choice {
+    type Error = UnknownChoice;
+
+    ghost try_from_gives = { Chosen };
+
+    fn try_from(number: u8) -> Result<Choice, UnknownChoice> {
         match number {
-            1 => Some(Choice::Types),
-            2 => Some(Choice::Slots),
-            3 => Some(Choice::Rows),
-            4 => Some(Choice::Three),
-            5 => Some(Choice::RowsTypes),
-            _ => None,
+            1 => Ok(Choice::Types),
+            2 => Ok(Choice::Slots),
+            3 => Ok(Choice::Rows),
+            4 => Ok(Choice::Three),
+            5 => Ok(Choice::RowsTypes),
+            _ => Err(UnknownChoice(number)),
         }
     }
 }
 
 /// A question about two states, which are given as bytes that may or may not begin with the writing of a state, and about
 /// the effect of an instruction on the first.
-#[derive(Clone, Copy)]
+#[derive(Clone, Copy, Debug, PartialEq, Eq)]
 pub struct Query<'a> {
     pub choice: Choice,
     pub instruction: u16,
@@ -42,13 +47,13 @@ pub struct Query<'a> {
     pub b: &'a [u8],
 }
 
-impl<'a> Query<'a> {
-    /// Takes a query. Where there is no whole one, or its analysis is none, all stays as it was.
-    pub fn next(cursor: &mut Cursor<'a>) -> Option<Query<'a>>
-        ensures { TakesQuery cursor.old result cursor.new }
-    {
+impl<'a> Piece<'a> for Query<'a> {
+    ghost takes = { TakesQuery };
+
+    fn take(cursor: &mut Cursor<'a>) -> Option<Query<'a>> {
+        // Kept as a copy that is put back, as in `Block`.
         let mut after = *cursor;
-        let choice = Choice::from_number(after.byte()?)?;
+        let choice = Choice::try_from(after.byte()?).ok()?;
         let instruction = after.word()?;
         let a = after.field()?;
         let b = after.field()?;

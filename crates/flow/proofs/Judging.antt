@@ -8,7 +8,7 @@ use Rattle.flow_theory.specs.declared.certificate.CertificateError.{CertificateE
 use Rattle.flow_theory.specs.declared.certificate.Entry.{Entry}
 use Rattle.flow_theory.specs.declared.flow.FlowFault.{FlowFault}
 use Rattle.flow_theory.specs.declared.check.CheckError.{CheckError}
-use Rattle.flow_theory.specs.declared.check.CheckError.TheVariants.{Certificate, Flow}
+use Rattle.flow_theory.specs.declared.check.CheckError.TheVariants.{Flow}
 use Rattle.flow_theory.specs.Certificate.{entries_in}
 use Rattle.flow_theory.specs.Walk.{walk}
 use Rattle.flow_theory.specs.Checking.{flowing, judged, verdict}
@@ -19,16 +19,9 @@ module _ {S : Type 0} (p : Parts) (m : Meaning S) where
   judged_walk (Ok es) held h = ap (λ (τ : Typing S). flowing (walk p m τ)) (fun_ext h.1)
   judged_walk (Err e) held h = absurd (grind arith)
 
-  judged_read : (d : Result (List (Entry S)) CertificateError) (held : Typing S) (e : CertificateError) → EntriesRead d (Err e) held → Err (Certificate e) ≡ judged p m d
-  judged_read (Ok es) held e h = absurd (let q = h.0 in grind arith)
-  judged_read (Err f) held e h = let q : e ≡ f = grind arith in ap (λ x. Err (Certificate x)) q
-
   -- the walk decides
   pub verdict_accepts : (bs : List ℕ) (held : Typing S) → EntriesRead (entries_in p m bs) (Ok tt) held → Ok tt ≡ walk p m held → Ok tt ≡ verdict p m bs
   verdict_accepts bs held h e = ap flowing e ∙ judged_walk (entries_in p m bs) held h
 
   pub verdict_flow : (bs : List ℕ) (held : Typing S) (f : FlowFault) (r : Result (Unit {0}) CheckError) → EntriesRead (entries_in p m bs) (Ok tt) held → Err f ≡ walk p m held → r ≡ Err (Flow f) → r ≡ verdict p m bs
   verdict_flow bs held f r h e q = q ∙ ap flowing e ∙ judged_walk (entries_in p m bs) held h
-
-  pub verdict_certificate : (bs : List ℕ) (held : Typing S) (e : CertificateError) (r : Result (Unit {0}) CheckError) → EntriesRead (entries_in p m bs) (Err e) held → r ≡ Err (Certificate e) → r ≡ verdict p m bs
-  verdict_certificate bs held e r h q = q ∙ judged_read (entries_in p m bs) held e h

@@ -1,4 +1,5 @@
 pub mod Filling
+pub mod Marking
 pub mod Turning
 pub mod Entering
 pub mod Gathering

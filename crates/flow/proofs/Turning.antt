@@ -1,5 +1,5 @@
 -- A turn, from its steps.
-use Rattle.std.proofs.Common.{◌≡◌, ℕ, suc, ◌+◌, ◌-◌, ◌<◌, ◌≤◌, Bool, true, false, cond, Some, Ok, Err, Option, Result, sym, ap, ◌∙◌, arith}
+use Rattle.std.proofs.Common.{◌≡◌, ℕ, suc, ◌+◌, ◌-◌, ◌<◌, Bool, true, false, cond, Some, Ok, Err, Option, Result, sym, ap, ◌∙◌, arith}
 use Rattle.format.specs.Parts.{Parts}
 use Rattle.analysis_theory.specs.declared.fault.Fault.{Fault}
 use Rattle.analysis_theory.specs.Meaning.{Meaning}
@@ -36,6 +36,3 @@ module _ {S : Type 0} (p : Parts) (m : Meaning S) (entries : Typing S) where
   walk_stops len i arriving f l e =
       ap (λ (n : ℕ). walk_from p m entries n i arriving) (let q : len - i ≡ suc (len - (i + 1)) = omega arith in q)
       ∙ ap (λ r. after_turn r (λ x. walk_from p m entries (len - (i + 1)) (i + 1) x)) (sym e)
-
-  pub walk_ends : (len i : ℕ) (arriving : Option S) → len ≤ i → walk_from p m entries (len - i) i arriving ≡ Ok tt
-  walk_ends len i arriving l = ap (λ (n : ℕ). walk_from p m entries n i arriving) (let q : len - i ≡ 0 = omega arith in q)

@@ -1,5 +1,5 @@
 -- A table of states and its marks: what they hold, and what they are filled with.
-use Rattle.std.specs.Prelude.{ℕ, Bool, cond, ◌&&◌, List, ◌++◌, length, drop, replicate, Some, None, Err, Result, ◌==◌, nat_le, slice_index, slice_index_or}
+use Rattle.std.specs.Prelude.{ℕ, Bool, cond, ◌&&◌, List, [], ◌∷◌, ◌++◌, length, drop, replicate, Some, None, Err, Option, Result, ◌==◌, nat_le, slice_index_or}
 use Rattle.format.specs.Parts.{Parts}
 use Rattle.analysis_theory.specs.Meaning.{Meaning}
 use Rattle.analysis_theory.specs.Typing.{Typing}
@@ -11,9 +11,15 @@ use Rattle.flow_theory.specs.Checking.{verdict}
 abbrev pub filled : {A : Type 0} → ℕ → A → List A → List A
 filled n x xs = replicate n x ++ drop n xs
 
--- the states at the places with a mark that is not 0
-abbrev pub entries_on : {S : Type 0} → S → List S → List ℕ → Typing S
-entries_on d table marks i = cond (slice_index marks i == 0) None (Some (slice_index_or table i d))
+-- the state at each place, where its mark is not 0
+abbrev pub marked : {S : Type 0} → List S → List ℕ → List (Option S)
+marked [] marks = []
+marked (s ∷ table) [] = []
+marked (s ∷ table) (k ∷ marks) = cond (k == 0) None (Some s) ∷ marked table marks
+
+-- a list of entries, as a typing
+abbrev pub listed : {S : Type 0} → List (Option S) → Typing S
+listed entries i = slice_index_or entries i None
 
 -- whether a table and marks of these lengths have a place for each of so many instructions
 abbrev pub roomy : ℕ → ℕ → ℕ → Bool

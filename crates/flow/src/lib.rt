@@ -3,5 +3,6 @@
 
 pub mod check;
 mod entries;
+mod fields;
 mod tables;
 mod walk;

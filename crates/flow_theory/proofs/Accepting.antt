@@ -11,12 +11,9 @@ use Rattle.flow_theory.specs.declared.flow.FlowFault.{FlowFault}
 use Rattle.flow_theory.specs.declared.flow.FlowFault.TheVariants.{NotBelow, Leaves}
 use Rattle.flow_theory.specs.Walk.{sender_of, ways_at, holds, arrives, jump_to, jumped, onward, and_then, visited, passed_over, turn, after_turn, walk_from, walk}
 use Rattle.flow_theory.specs.Held.{or_nothing, arriving, held}
+use Rattle.flow_theory.proofs.Tests.{test_passed}
 
--- what an accepted test tells
-passed : {X : Type 0} (b : Bool) (x : Result X FlowFault) (f : FlowFault) (y : X) → cond b x (Err f) ≡ Ok y → (b ≡ true) × (x ≡ Ok y)
-passed true x f y e = (refl, e)
-passed false x f y e = absurd (grind arith)
-
+-- what an accepted step tells
 both_ok : {X Y : Type 0} (x : Result X FlowFault) (y : Result Y FlowFault) (a : Y) → and_then x y ≡ Ok a → ((b : X) × (x ≡ Ok b)) × (y ≡ Ok a)
 both_ok (Ok b) y a e = ((b, refl), e)
 both_ok (Err f) y a e = absurd (grind arith)
@@ -60,12 +57,12 @@ module _ {S : Type 0} (p : Parts) (m : Meaning S) (entries : Typing S) where
 
   turned : (i : ℕ) (s : S) → Went i → holds (entries i) (arriving p m entries i) ≡ Some s → Turned i s
   turned i s w h =
-      let u = passed (arrives m (entries i) (arriving p m entries i)) (passed_over p m entries i (holds (entries i) (arriving p m entries i))) (NotBelow i (sender_of i)) (arriving p m entries (suc i)) w in
+      let u = test_passed (arrives m (entries i) (arriving p m entries i)) (passed_over p m entries i (holds (entries i) (arriving p m entries i))) (NotBelow i (sender_of i)) (arriving p m entries (suc i)) w in
       visit_ok i s (m.after i s) refl
       (subst (λ (o : Option S). passed_over p m entries i o ≡ Ok (arriving p m entries (suc i))) h u.1)
 
   arrived : (i : ℕ) → Went i → arrives m (entries i) (arriving p m entries i) ≡ true
-  arrived i w = (passed (arrives m (entries i) (arriving p m entries i)) (passed_over p m entries i (holds (entries i) (arriving p m entries i))) (NotBelow i (sender_of i)) (arriving p m entries (suc i)) w).0
+  arrived i w = (test_passed (arrives m (entries i) (arriving p m entries i)) (passed_over p m entries i (holds (entries i) (arriving p m entries i))) (NotBelow i (sender_of i)) (arriving p m entries (suc i)) w).0
 
   held_is : (i : ℕ) → i < length p.code → held p m entries i ≡ holds (entries i) (arriving p m entries i)
   held_is i l = rw (lt-ltb i (length p.code) l) refl
@@ -107,7 +104,7 @@ module _ {S : Type 0} {p : Parts} {m : Meaning S} (laws : Laws p m) (entries : T
             (laws.after_is_state i s t.after sk t.accepted)
         from None h k =
             let w = went_at i (omega arith) in
-            let u = passed (arrives m (entries i) (arriving p m entries i)) (passed_over p m entries i (holds (entries i) (arriving p m entries i))) (NotBelow i (sender_of i)) (arriving p m entries (suc i)) w in
+            let u = test_passed (arrives m (entries i) (arriving p m entries i)) (passed_over p m entries i (holds (entries i) (arriving p m entries i))) (NotBelow i (sender_of i)) (arriving p m entries (suc i)) w in
             let n : Ok None ≡ Ok (arriving p m entries (suc i)) = subst (λ (o : Option S). passed_over p m entries i o ≡ Ok (arriving p m entries (suc i))) h u.1 in
             absurd (grind arith)
 
@@ -142,7 +139,7 @@ module _ {S : Type 0} {p : Parts} {m : Meaning S} (laws : Laws p m) (entries : T
     -- the jump way
     entry_above : (i j : ℕ) (t : S) (o : Option S) → entries j ≡ o → jump_to m i j t o ≡ Ok tt → HoldsAbove m (held p m entries j) t
     entry_above i j t (Some e) q h =
-        let u = passed (m.below t e) (Ok tt) (NotBelow j i) tt h in
+        let u = test_passed (m.below t e) (Ok tt) (NotBelow j (Some i)) tt h in
         let l = inside j e q in
         let is : held p m entries j ≡ Some e = held_is p m entries j l ∙ ap (λ (x : Option S). holds x (arriving p m entries j)) q in
         subst (λ (x : Option S). HoldsAbove m x t) (sym is) u.0

@@ -13,8 +13,9 @@ use Rattle.analysis_theory.specs.Meaning.{Meaning, Got}
 use Rattle.analysis_theory.specs.Laws.{Laws}
 use Rattle.flow_theory.specs.declared.certificate.CertificateError.{CertificateError}
 use Rattle.flow_theory.specs.declared.certificate.Entry.{Entry}
-use Rattle.flow_theory.specs.declared.certificate.CertificateError.TheVariants.{Framing, Number, State}
+use Rattle.flow_theory.specs.declared.certificate.CertificateError.TheVariants.{Framing, Number, LeftOver}
 use Rattle.flow_theory.specs.Certificate.{entry_bytes, entries_bytes, certificate_bytes, Rising, none, more, headed, framed, state_in, on_front, stated, entries_from, entries_in}
+use Rattle.flow_theory.proofs.Tests.{test_passed, framed_facts}
 
 -- behind a front, bytes are found as they are
 byte_behind : (front ys : List ℕ) (k : ℕ) → byte_at (front ++ ys) (length front + k) ≡ byte_at ys k
@@ -92,7 +93,7 @@ module _ {S : Type 0} {p : Parts} {m : Meaning S} (laws : Laws p m) where
         ∙ ap (λ (b : Bool). cond b (cond (leb least (word_at bs (q + 3)) && ltb (word_at bs (q + 3)) (length p.code)) (stated q (word_at bs (q + 3)) (word_at bs (q + 1) - 2) (m.parsed (state_in bs q)) later) (Err (Number q))) (Err (Framing q))) framed_is
         ∙ ap (λ (b : Bool). cond b (stated q (word_at bs (q + 3)) (word_at bs (q + 1) - 2) (m.parsed (state_in bs q)) later) (Err (Number q))) numbered
         ∙ ap (λ (r : Result (Got S) Unreadable). stated q (word_at bs (q + 3)) (word_at bs (q + 1) - 2) r later) parsed_is
-        ∙ ap (λ (b : Bool). cond b (on_front (record { at = word_at bs (q + 3); state = e.state }) later) (Err (State q 0))) used
+        ∙ ap (λ (b : Bool). cond b (on_front (record { at = word_at bs (q + 3); state = e.state }) later) (Err (LeftOver q))) used
         ∙ ap (λ (k : ℕ). on_front (record { at = word_at bs (q + 3); state = e.state }) (entries_from p m bs n k (word_at bs (q + 3) + 1))) behind
         ∙ ap (λ (k : ℕ). on_front (record { at = k; state = e.state }) (entries_from p m bs n (length (front ++ entry_bytes m e)) (k + 1))) number_is
 
@@ -128,11 +129,7 @@ module _ {S : Type 0} {p : Parts} {m : Meaning S} (laws : Laws p m) where
       ap (λ (b : Bool). cond b (entries_from p m xs (length xs) 5 0) (Err (Framing 0))) ok
       ∙ decoded_back (length xs) 0 head es r (let h = length_entries es in omega arith)
 
--- what passed tests tell
-test_passed : {X : Type 0} (b : Bool) (x : Result X CertificateError) (f : CertificateError) (y : X) → cond b x (Err f) ≡ Ok y → (b ≡ true) × (x ≡ Ok y)
-test_passed true x f y e = (refl, e)
-test_passed false x f y e = absurd (grind arith)
-
+-- an entry in front of what was read
 front_ok : {S : Type 0} (e : Entry S) (r : Result (List (Entry S)) CertificateError) (es : List (Entry S)) → on_front e r ≡ Ok es → (fs : List (Entry S)) × (r ≡ Ok fs) × (es ≡ e ∷ fs)
 front_ok e (Ok fs) es h = (fs, refl, grind arith)
 front_ok e (Err f) es h = absurd (grind arith)
@@ -147,7 +144,7 @@ record Stated {S : Type 0} (r : Result (Got S) Unreadable) (number size : ℕ) (
 
 stated_ok : {S : Type 0} (q number size : ℕ) (r : Result (Got S) Unreadable) (rest : Result (List (Entry S)) CertificateError) (es : List (Entry S)) → stated q number size r rest ≡ Ok es → Stated r number size rest es
 stated_ok q number size (Ok g) rest es h =
-    let u = test_passed (eqb g.length size) (on_front (record { at = number; state = g.state }) rest) (State q 0) es h in
+    let u = test_passed (eqb g.length size) (on_front (record { at = number; state = g.state }) rest) (LeftOver q) es h in
     let v = front_ok (record { at = number; state = g.state }) rest es u.1 in
     let n : g.length ≡ size = eqb-true g.length size u.0 in
     record { state = g.state; others = v.0; got = ap (λ (k : ℕ). Ok (record { state = g.state; length = k })) n; read_on = v.1; entries = v.2 }
@@ -191,13 +188,10 @@ module _ {S : Type 0} {p : Parts} {m : Meaning S} (laws : Laws p m) (bs : List �
   -- one field: its bytes are those of its entry, and behind them the rest
   one_decoded : (q : ℕ) (s : S) → framed bs q ≡ true → m.parsed (state_in bs q) ≡ Ok (record { state = s; length = word_at bs (q + 1) - 2 }) → (m.is_state s ≡ true) × (length (m.bytes s) ≤ 65533) × (drop q bs ≡ entry_bytes m (record { at = word_at bs (q + 3); state = s }) ++ drop (q + 3 + word_at bs (q + 1)) bs)
   one_decoded q s f g =
-      let a = and_parts (leb (q + 5) (length bs)) (eqb (byte_at bs q) 18 && (leb 2 (word_at bs (q + 1)) && leb (q + 3 + word_at bs (q + 1)) (length bs))) f in
-      let b = and_parts (eqb (byte_at bs q) 18) (leb 2 (word_at bs (q + 1)) && leb (q + 3 + word_at bs (q + 1)) (length bs)) a.1 in
-      let c = and_parts (leb 2 (word_at bs (q + 1))) (leb (q + 3 + word_at bs (q + 1)) (length bs)) b.1 in
-      let room : q + 5 ≤ length bs = leb-true _ _ a.0 in
-      let tag : byte_at bs q ≡ 18 = eqb-true _ _ b.0 in
-      let two : 2 ≤ word_at bs (q + 1) = leb-true _ _ c.0 in
-      let within : q + 3 + word_at bs (q + 1) ≤ length bs = leb-true _ _ c.1 in
+      let w = framed_facts bs q f in
+      let room = w.room in
+      let two = w.two in
+      let within = w.within in
       let n = word_at bs (q + 1) - 2 in
       let xs = state_in bs q in
       let size : length xs ≡ n = length_slice bs (q + 5) n (omega arith) in
@@ -215,7 +209,7 @@ module _ {S : Type 0} {p : Parts} {m : Meaning S} (laws : Laws p m) (bs : List �
         r.0,
         omega arith,
         five bs q room
-            ∙ ap (λ x. x ∷ byte_at bs (q + 1) ∷ byte_at bs (q + 2) ∷ byte_at bs (q + 3) ∷ byte_at bs (q + 4) ∷ drop (q + 5) bs) tag
+            ∙ ap (λ x. x ∷ byte_at bs (q + 1) ∷ byte_at bs (q + 2) ∷ byte_at bs (q + 3) ∷ byte_at bs (q + 4) ∷ drop (q + 5) bs) w.tag
             ∙ ap (λ ys. 18 ∷ (ys ++ (byte_at bs (q + 3) ∷ byte_at bs (q + 4) ∷ drop (q + 5) bs))) (sym first)
             ∙ ap (λ ys. 18 ∷ (word (2 + length (m.bytes s)) ++ (ys ++ drop (q + 5) bs))) (sym then)
             ∙ ap (λ ys. 18 ∷ (word (2 + length (m.bytes s)) ++ (word (word_at bs (q + 3)) ++ ys))) tail,

@@ -2,14 +2,15 @@
 use Rattle.std.proofs.Common.{◌≡◌, ℕ, zero, suc, ◌+◌, ◌-◌, ◌<◌, ◌≤◌, Bool, true, false, cond, ◌&&◌, eqb, ltb, leb, List, [], ◌∷◌, ◌++◌, length, Some, None, Ok, Err, Result, sym, refl, ap, ◌∙◌, subst, arith, ltb-true, eq-eqb, eqb-true, le-leb, leb-true}
 use borrow.Author.Tests.{lt-leb}
 use Rattle.std.proofs.lemmas.Bool.{and_parts}
-use Rattle.format.specs.Bytes.{byte_at, word_at}
+use Rattle.format.specs.Bytes.{word_at}
 use Rattle.format.specs.Parts.{Parts}
 use Rattle.analysis_theory.specs.declared.fault.Unreadable.{Unreadable}
 use Rattle.analysis_theory.specs.Meaning.{Meaning, Got}
 use Rattle.flow_theory.specs.declared.certificate.CertificateError.{CertificateError}
-use Rattle.flow_theory.specs.declared.certificate.CertificateError.TheVariants.{Framing, Number, State}
+use Rattle.flow_theory.specs.declared.certificate.CertificateError.TheVariants.{Framing, Number, LeftOver}
 use Rattle.flow_theory.specs.declared.certificate.Entry.{Entry}
 use Rattle.flow_theory.specs.Certificate.{framed, state_in, on_front, stated, entries_from, entry_state, entry_in, entry_at}
+use Rattle.flow_theory.proofs.Tests.{test_passed, framed_facts}
 
 abbrev pub read_on : {S : Type 0} → Result (Entry S) CertificateError → (Entry S → Result (List (Entry S)) CertificateError) → Result (List (Entry S)) CertificateError
 read_on (Ok e) rest = on_front e (rest e)
@@ -36,7 +37,7 @@ module _ {S : Type 0} (p : Parts) (m : Meaning S) (bs : List ℕ) where
   stated_is : (q number size n : ℕ) (r : Result (Got S) Unreadable) → stated q number size r (entries_from p m bs n (q + 3 + word_at bs (q + 1)) (number + 1)) ≡ read_on (entry_state q number size r) (λ e. entries_from p m bs n (q + 3 + word_at bs (q + 1)) (e.at + 1))
   stated_is q number size n (Ok g) = go (eqb g.length size)
     where
-      go : (b : Bool) → cond b (on_front (record { at = number; state = g.state }) (entries_from p m bs n (q + 3 + word_at bs (q + 1)) (number + 1))) (Err (State q 0)) ≡ read_on (cond b (Ok (record { at = number; state = g.state })) (Err (State q 0))) (λ e. entries_from p m bs n (q + 3 + word_at bs (q + 1)) (e.at + 1))
+      go : (b : Bool) → cond b (on_front (record { at = number; state = g.state }) (entries_from p m bs n (q + 3 + word_at bs (q + 1)) (number + 1))) (Err (LeftOver q)) ≡ read_on (cond b (Ok (record { at = number; state = g.state })) (Err (LeftOver q))) (λ e. entries_from p m bs n (q + 3 + word_at bs (q + 1)) (e.at + 1))
       go true = refl
       go false = refl
   stated_is q number size n (Err u) = refl
@@ -62,29 +63,23 @@ module _ {S : Type 0} (p : Parts) (m : Meaning S) (bs : List ℕ) where
     pub rises : least ≤ e.at
     pub in_code : e.at < length p.code
 
-  field_test : (b : Bool) (x : Result (Entry S) CertificateError) (f : CertificateError) (e : Entry S) → cond b x (Err f) ≡ Ok e → (b ≡ true) × (x ≡ Ok e)
-  field_test true x f e h = (refl, h)
-  field_test false x f e h = absurd (grind arith)
-
   number_is : (q number size : ℕ) (r : Result (Got S) Unreadable) (e : Entry S) → entry_state q number size r ≡ Ok e → number ≡ e.at
   number_is q number size (Ok g) e h =
-      let u = field_test (eqb g.length size) (Ok (record { at = number; state = g.state })) (State q 0) e h in
+      let u = test_passed (eqb g.length size) (Ok (record { at = number; state = g.state })) (LeftOver q) e h in
       let v = u.1 in
       grind arith
   number_is q number size (Err u) e h = absurd (grind arith)
 
   pub field_facts : (q least : ℕ) (e : Entry S) → entry_in p m bs q least ≡ Ok e → FieldFacts q least e
   field_facts q least e h =
-      let u = field_test (framed bs q) (cond (leb least (word_at bs (q + 3)) && ltb (word_at bs (q + 3)) (length p.code)) (entry_state q (word_at bs (q + 3)) (word_at bs (q + 1) - 2) (m.parsed (state_in bs q))) (Err (Number q))) (Framing q) e h in
-      let v = field_test (leb least (word_at bs (q + 3)) && ltb (word_at bs (q + 3)) (length p.code)) (entry_state q (word_at bs (q + 3)) (word_at bs (q + 1) - 2) (m.parsed (state_in bs q))) (Number q) e u.1 in
+      let u = test_passed (framed bs q) (cond (leb least (word_at bs (q + 3)) && ltb (word_at bs (q + 3)) (length p.code)) (entry_state q (word_at bs (q + 3)) (word_at bs (q + 1) - 2) (m.parsed (state_in bs q))) (Err (Number q))) (Framing q) e h in
+      let v = test_passed (leb least (word_at bs (q + 3)) && ltb (word_at bs (q + 3)) (length p.code)) (entry_state q (word_at bs (q + 3)) (word_at bs (q + 1) - 2) (m.parsed (state_in bs q))) (Number q) e u.1 in
       let n = number_is q (word_at bs (q + 3)) (word_at bs (q + 1) - 2) (m.parsed (state_in bs q)) e v.1 in
-      let a = and_parts (leb (q + 5) (length bs)) (eqb (byte_at bs q) 18 && (leb 2 (word_at bs (q + 1)) && leb (q + 3 + word_at bs (q + 1)) (length bs))) u.0 in
-      let b = and_parts (eqb (byte_at bs q) 18) (leb 2 (word_at bs (q + 1)) && leb (q + 3 + word_at bs (q + 1)) (length bs)) a.1 in
-      let c = and_parts (leb 2 (word_at bs (q + 1))) (leb (q + 3 + word_at bs (q + 1)) (length bs)) b.1 in
+      let w = framed_facts bs q u.0 in
       let d = and_parts (leb least (word_at bs (q + 3))) (ltb (word_at bs (q + 3)) (length p.code)) v.0 in
       record {
-        room = leb-true _ _ a.0;
-        within = leb-true _ _ c.1;
+        room = w.room;
+        within = w.within;
         rises = subst (λ (k : ℕ). least ≤ k) n (leb-true _ _ d.0);
         in_code = subst (λ (k : ℕ). k < length p.code) n (ltb-true _ _ d.1);
       }

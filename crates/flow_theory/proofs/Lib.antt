@@ -1,3 +1,4 @@
+pub mod Tests
 pub mod Accepting
 pub mod Written
 pub mod Decoding

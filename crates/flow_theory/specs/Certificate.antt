@@ -8,7 +8,7 @@ use Rattle.analysis_theory.specs.Meaning.{Meaning, Got}
 use Rattle.analysis_theory.specs.Typing.{Typing}
 use Rattle.flow_theory.specs.declared.certificate.CertificateError.{CertificateError}
 use Rattle.flow_theory.specs.declared.certificate.Entry.{Entry}
-use Rattle.flow_theory.specs.declared.certificate.CertificateError.TheVariants.{Framing, Number, State}
+use Rattle.flow_theory.specs.declared.certificate.CertificateError.TheVariants.{Framing, Number, State, LeftOver}
 
 -- writing
 
@@ -50,7 +50,7 @@ on_front e (Err f) = Err f
 -- the state has to take all of the field's bytes
 abbrev pub stated : {S : Type 0} → ℕ → ℕ → ℕ → Result (Got S) Unreadable → Result (List (Entry S)) CertificateError → Result (List (Entry S)) CertificateError
 stated q number size (Ok g) rest =
-    cond (g.length == size) (on_front (record { at = number; state = g.state }) rest) (Err (State q 0))
+    cond (g.length == size) (on_front (record { at = number; state = g.state }) rest) (Err (LeftOver q))
 stated q number size (Err u) rest = Err (State q u.layer)
 
 -- so many fields at most from a place on, whose numbers are at least the least allowed
@@ -76,7 +76,7 @@ entry_at (e ∷ es) i = cond (e.at == i) (Some e.state) (entry_at es i)
 
 -- one field: its entry, or what is wrong with it
 abbrev pub entry_state : {S : Type 0} → ℕ → ℕ → ℕ → Result (Got S) Unreadable → Result (Entry S) CertificateError
-entry_state q number size (Ok g) = cond (g.length == size) (Ok (record { at = number; state = g.state })) (Err (State q 0))
+entry_state q number size (Ok g) = cond (g.length == size) (Ok (record { at = number; state = g.state })) (Err (LeftOver q))
 entry_state q number size (Err u) = Err (State q u.layer)
 
 abbrev pub entry_in : {S : Type 0} → Parts → Meaning S → List ℕ → ℕ → ℕ → Result (Entry S) CertificateError

@@ -12,10 +12,10 @@ use Rattle.analysis_theory.specs.Typing.{Typing}
 use Rattle.flow_theory.specs.declared.flow.FlowFault.{FlowFault}
 use Rattle.flow_theory.specs.declared.flow.FlowFault.TheVariants.{NotBelow, Effect, NoEntry, Leaves}
 
--- where what arrives at an instruction comes from: the one before it, and the start as 65,535
-abbrev pub sender_of : ℕ → ℕ
-sender_of zero = 65535
-sender_of (suc i) = i
+-- where what arrives at an instruction comes from: the one before it, and the start as none
+abbrev pub sender_of : ℕ → Option ℕ
+sender_of zero = None
+sender_of (suc i) = Some i
 
 abbrev pub ways_at : Parts → ℕ → Ways
 ways_at p i = (line_of (instruction_of p i).opcode).ways
@@ -33,7 +33,7 @@ arrives m None arriving = true
 
 -- a jump's target has an entry, and the state that comes there is below it
 abbrev pub jump_to : {S : Type 0} → Meaning S → ℕ → ℕ → S → Option S → Result (Unit {0}) FlowFault
-jump_to m i j t (Some e) = cond (m.below t e) (Ok tt) (Err (NotBelow j i))
+jump_to m i j t (Some e) = cond (m.below t e) (Ok tt) (Err (NotBelow j (Some i)))
 jump_to m i j t None = Err (NoEntry i j)
 
 abbrev pub jumped : {S : Type 0} → Parts → Meaning S → Typing S → ℕ → S → Result (Unit {0}) FlowFault

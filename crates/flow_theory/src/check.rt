@@ -7,7 +7,7 @@ use crate::flow::FlowFault;
 use format::refusal::Refusal;
 
 /// Why a certificate is not accepted.
-#[derive(Clone, Copy)]
+#[derive(Clone, Copy, Debug, PartialEq, Eq)]
 pub enum CheckError {
     /// The table or the marks are shorter than the code.
     Sizes,
@@ -33,21 +33,18 @@ impl From<FlowFault> for CheckError {
     }
 }
 
-impl CheckError {
+impl From<CheckError> for Refusal {
+    ghost from_gives = { λ e r. r ≡ check_refusal e };
+
     /// The five numbers of a refused check.
-    pub fn refusal(self) -> Refusal
-        ensures { result ≡ check_refusal self }
-    {
-        match self {
+    fn from(error: CheckError) -> Refusal {
+        match error {
             CheckError::Sizes => Refusal {
                 number: 6,
-                place: 0,
-                layer: 0,
-                fault: 0,
-                detail: 0,
+                ..Refusal::default()
             },
-            CheckError::Certificate(error) => error.refusal(),
-            CheckError::Flow(fault) => fault.refusal(),
+            CheckError::Certificate(error) => Refusal::from(error),
+            CheckError::Flow(fault) => Refusal::from(fault),
         }
     }
 }

@@ -5,18 +5,21 @@ ghost use Rattle.flow_theory.specs.declared.flow.FlowFault.TheVariants.{Effect};
 use analysis_theory::fault::Fault;
 use format::refusal::Refusal;
 
+/// The start's number in a refusal. No instruction has it: a code has fewer instructions.
+const START: usize = 65535;
+
 /// A fault of an analysis, and the instruction that it refuses.
-#[derive(Clone, Copy)]
+#[derive(Clone, Copy, Debug, PartialEq, Eq)]
 pub struct Located {
     pub at: usize,
     pub fault: Fault,
 }
 
 /// Why states do not flow through a rule as its certificate says.
-#[derive(Clone, Copy)]
+#[derive(Clone, Copy, Debug, PartialEq, Eq)]
 pub enum FlowFault {
-    /// The state that comes from an instruction, or from the start, is not below the entry at a place.
-    NotBelow { place: usize, from: usize },
+    /// The state that comes from an instruction, or from the start where none is named, is not below the entry at a place.
+    NotBelow { place: usize, from: Option<usize> },
     /// The analysis refuses an instruction.
     Effect(Located),
     /// The instruction that is jumped to has no entry.
@@ -33,12 +36,12 @@ impl From<Located> for FlowFault {
     }
 }
 
-impl FlowFault {
+impl From<FlowFault> for Refusal {
+    ghost from_gives = { λ f r. r ≡ flow_refusal f };
+
     /// The five numbers of states that do not flow as a certificate says.
-    pub fn refusal(self) -> Refusal
-        ensures { result ≡ flow_refusal self }
-    {
-        let (number, place, detail) = match self {
+    fn from(fault: FlowFault) -> Refusal {
+        let (number, place, detail) = match fault {
             FlowFault::Effect(Located { at, fault }) => {
                 return Refusal {
                     number: 7,
@@ -50,14 +53,13 @@ impl FlowFault {
             }
             FlowFault::Leaves { at } => (8, at, 0),
             FlowFault::NoEntry { at, target } => (14, at, target),
-            FlowFault::NotBelow { place, from } => (15, place, from),
+            FlowFault::NotBelow { place, from } => (15, place, from.unwrap_or(START)),
         };
         Refusal {
             number,
             place,
-            layer: 0,
-            fault: 0,
             detail,
+            ..Refusal::default()
         }
     }
 }

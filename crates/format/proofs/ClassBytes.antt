@@ -9,7 +9,7 @@ use Rattle.format.specs.Bytes.{AllBytes, byte_at, word_at, slice, tabulate}
 use Rattle.format.specs.Encoding.{kind_bytes, class_bytes}
 use Rattle.format.specs.Decoding.{kind_at, class_at}
 use Rattle.format.specs.Tests.{count_at, code_at}
-use Rattle.format.proofs.Slices.{slice_append, slice_at, zeros, chunks, joined_map, length_joined}
+use Rattle.format.proofs.Slices.{slice_append, byte_said, zeros, chunks, joined_map, length_joined}
 use Rattle.format.proofs.Words.{word_of}
 use Rattle.format.proofs.Views.{length_tabulate}
 use Rattle.format.proofs.SlotRecords.{kind_here}
@@ -92,7 +92,7 @@ module _ (bs : List ℕ) (at : ℕ) (bytes : AllBytes bs) (fits : at + 19 ≤ le
   unfolding written
   late_byte h j l =
       let s : at + 3 + j ≡ at + suc (suc (suc j)) = omega arith in
-      ap (byte_at bs) s ∙ sym (slice_at bs at 19 (suc (suc (suc j))) (omega arith)) ∙ ap (λ xs. byte_at xs (suc (suc (suc j)))) (h ∙ is_written)
+      ap (byte_at bs) s ∙ byte_said bs written at 19 (suc (suc (suc j))) (omega arith) (h ∙ is_written)
 
   pub unused_zero : slice bs at 19 ≡ class_bytes (class_at bs at) → (k : ℕ) → count_at bs at ≤ k → k < 8 → code_at bs at k ≡ 0
   unused_zero h k lo hi =

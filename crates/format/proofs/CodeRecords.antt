@@ -16,7 +16,7 @@ use Rattle.format.specs.Rules.{Names}
 use Rattle.format.specs.Decoding.{instruction_at, parts_at}
 use Rattle.format.specs.Tests.{count_at, names_test, instruction_readable}
 use Rattle.format.specs.Right.{CodeRight}
-use Rattle.format.proofs.Slices.{slice_at}
+use Rattle.format.proofs.Slices.{first_said}
 use Rattle.format.proofs.Words.{word_of}
 use Rattle.format.proofs.Views.{class_count, slot_count, code_count, field_count_view, instruction_view}
 use Rattle.format.proofs.Framing.{three}
@@ -71,8 +71,7 @@ module _ (bs : List ℕ) (l : Layout) (i : ℕ) (bytes : AllBytes bs) (here : i 
   exists : CodeRight bs l i → byte_at bs (l.code.start + 3 * i) < 15
   unfolding at
   exists r =
-      let z : at + 0 ≡ at = omega arith in
-      let b : byte_at bs at ≡ opcode_number (instruction_of (parts_at bs l) i).opcode = ap (byte_at bs) (sym z) ∙ sym (slice_at bs at 3 0 (omega arith)) ∙ ap (λ xs. byte_at xs 0) r.here in
+      let b : byte_at bs at ≡ opcode_number (instruction_of (parts_at bs l) i).opcode = first_said bs _ at 3 (omega arith) r.here in
       omega (arith, b, number_below (instruction_of (parts_at bs l) i).opcode)
 
   from_right : CodeRight bs l i → Names (parts_at bs l) (line_at (byte_at bs (l.code.start + 3 * i))).sort (word_at bs (l.code.start + 3 * i + 1))

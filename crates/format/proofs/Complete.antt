@@ -5,7 +5,7 @@ use Rattle.std.proofs.lemmas.List.{append_assoc, append-nil, length-append, drop
 use Rattle.kinds.specs.declared.kind.Kind.{Kind}
 use Rattle.kinds.specs.declared.kind.Kind.TheVariants.{Int}
 use Rattle.opcodes.specs.declared.opcode.Instruction.{Instruction}
-use Rattle.format.specs.Bytes.{AllBytes, byte_at, slice, tabulate}
+use Rattle.format.specs.Bytes.{AllBytes, slice, tabulate}
 use Rattle.format.specs.Parts.{ClassParts, Parts, no_class, no_instruction, class_of, slot_of, instruction_of}
 use Rattle.format.specs.Encoding.{field, head_bytes, class_bytes, kind_bytes, instruction_bytes, encode}
 use Rattle.format.specs.Rules.{ClassRule, SlotRule, CodeRule, Keeps}
@@ -14,7 +14,7 @@ use Rattle.format.specs.Reading.{field_end, places_of, body_length}
 use Rattle.format.specs.Stages.{layout_in, Passes}
 use Rattle.format.specs.Right.{FieldAt, FrameRight, said, HeadRight, Sized, ClassesRight, SlotsRight, CodeIsRight}
 use Rattle.format.specs.Meaning.{Encodes}
-use Rattle.format.proofs.Slices.{slice_at, slice_slice, chunk_at, length_joined}
+use Rattle.format.proofs.Slices.{byte_said, slice_slice, chunk_at, length_joined}
 use Rattle.format.proofs.Words.{kind_of_code}
 use Rattle.format.proofs.Views.{length_tabulate, get_d_tabulate}
 use Rattle.format.proofs.Framing.{stands_framed, right_frame, field_body}
@@ -130,7 +130,7 @@ module _ (bs : List ℕ) (bytes : AllBytes bs) (q : Parts) (h : bs ≡ encode q)
   depth_said : (said bs).depth ≡ q.depth
   unfolding b₁
   depth_said =
-      sym (slice_at bs 3 (body_length 0 (places_of bs).classes) 1 (omega (arith, one.size))) ∙ ap (λ xs. byte_at xs 1) one.contents
+      byte_said bs b₁ 3 (body_length 0 (places_of bs).classes) 1 (omega (arith, one.size)) one.contents
 
   head : HeadRight bs
   unfolding b₁

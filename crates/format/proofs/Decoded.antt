@@ -15,7 +15,7 @@ use Rattle.format.specs.Parts.{ClassParts}
 use Rattle.format.specs.Encoding.{class_bytes, kind_bytes, instruction_bytes}
 use Rattle.format.specs.Decoding.{kind_at, class_at, instruction_at}
 use Rattle.format.specs.Tests.{count_at}
-use Rattle.format.proofs.Slices.{slice_at, slice_slice, chunk_at, length_joined}
+use Rattle.format.proofs.Slices.{byte_said, first_said, slice_slice, chunk_at, length_joined}
 use Rattle.format.proofs.Words.{word_said}
 use Rattle.format.proofs.Views.{length_tabulate, get_d_tabulate}
 
@@ -27,8 +27,7 @@ same_instruction o p m n e f = rw (e, f)
 
 pub instruction_said : (bs : List ℕ) (at : ℕ) (x : Instruction) → slice bs at 3 ≡ instruction_bytes x → instruction_at bs at ≡ x
 instruction_said bs at x h =
-    let z : at + 0 ≡ at = omega arith in
-    let o : byte_at bs at ≡ opcode_number x.opcode = ap (byte_at bs) (sym z) ∙ sym (slice_at bs at 3 0 (omega arith)) ∙ ap (λ xs. byte_at xs 0) h in
+    let o : byte_at bs at ≡ opcode_number x.opcode = first_said bs (instruction_bytes x) at 3 (omega arith) h in
     same_instruction _ _ _ _ (ap opcode_at o ∙ at_number x.opcode)
     (word_said bs (at + 1) x.operand (sym (slice_slice bs at 3 1 2 (omega arith)) ∙ ap (λ xs. slice xs 1 2) h))
 
@@ -56,7 +55,7 @@ same_class m n xs ys e f = rw (e, f)
 
 module _ (bs : List ℕ) (at : ℕ) (x : ClassParts) (h : slice bs at 19 ≡ class_bytes x) (few : length x.fields ≤ 8) (survive : (k : ℕ) → k < length x.fields → kind_of (kind_code (get_or x.fields k Int)) ≡ get_or x.fields k Int) where
   count_said : count_at bs at ≡ length x.fields
-  count_said = sym (slice_at bs at 19 2 (omega arith)) ∙ ap (λ xs. byte_at xs 2) h
+  count_said = byte_said bs (class_bytes x) at 19 2 (omega arith) h
 
   parent_said : word_at bs at ≡ x.parent
   parent_said =

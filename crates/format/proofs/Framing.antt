@@ -6,7 +6,7 @@ use Rattle.format.specs.Encoding.{field}
 use Rattle.format.specs.Reading.{framed_at, field_end, places_of, body_length}
 use Rattle.format.specs.Stages.{FramePasses}
 use Rattle.format.specs.Right.{FieldAt, FrameRight}
-use Rattle.format.proofs.Slices.{slice_cons, slice_at, length_slice, slice_within}
+use Rattle.format.proofs.Slices.{slice_cons, length_slice, slice_within, byte_said, first_said}
 use Rattle.format.proofs.Words.{word_of, number_of}
 
 pub record FramedParts (bs : List ℕ) (tag at : ℕ) : Type 0 where
@@ -52,11 +52,10 @@ stands_framed bs tag at next f =
     let n : ℕ = length f.body in
     let len : length (field tag f.body) ≡ 3 + n = omega arith in
     let fits : at + (3 + n) ≤ length bs = slice_within bs at (3 + n) (omega arith) (ap length f.here ∙ len) in
-    let z : at + 0 ≡ at = omega arith in
-    let t : byte_at bs at ≡ tag = ap (byte_at bs) (sym z) ∙ sym (slice_at bs at (3 + n) 0 (omega arith)) ∙ ap (λ xs. byte_at xs 0) f.here in
-    let hi : byte_at bs (at + 1) ≡ n / 256 = sym (slice_at bs at (3 + n) 1 (omega arith)) ∙ ap (λ xs. byte_at xs 1) f.here in
+    let t : byte_at bs at ≡ tag = first_said bs (field tag f.body) at (3 + n) (omega arith) f.here in
+    let hi : byte_at bs (at + 1) ≡ n / 256 = byte_said bs (field tag f.body) at (3 + n) 1 (omega arith) f.here in
     let s : at + 2 ≡ at + 1 + 1 = omega arith in
-    let lo : byte_at bs (at + 1 + 1) ≡ n % 256 = ap (byte_at bs) (sym s) ∙ sym (slice_at bs at (3 + n) 2 (omega arith)) ∙ ap (λ xs. byte_at xs 2) f.here in
+    let lo : byte_at bs (at + 1 + 1) ≡ n % 256 = ap (byte_at bs) (sym s) ∙ byte_said bs (field tag f.body) at (3 + n) 2 (omega arith) f.here in
     let w : word_at bs (at + 1) ≡ n = omega (arith, hi, lo, number_of n) in (
       and_from (leb (at + 3) (length bs)) (eqb (byte_at bs at) tag && leb (field_end bs at) (length bs)) (le-leb _ _ (omega (arith, fits)))
           (and_from (eqb (byte_at bs at) tag) (leb (field_end bs at) (length bs)) (eq-eqb _ _ t) (le-leb _ _ (omega (arith, fits, w)))),

@@ -1,16 +1,13 @@
 -- One look at each field of a class decides its rule: what it has from its parent equals the parent's, which was found good
 -- before, and only what is its own has to be looked at by itself.
-use Rattle.std.proofs.Common.{◌≡◌, ℕ, ◌+◌, ◌*◌, ◌<◌, ◌≤◌, Bool, true, false, ◌&&◌, eqb, ltb, leb, ◌⊎◌, List, sym, refl, ap, ◌∙◌, ⊎_elim, arith}
+use Rattle.std.proofs.Common.{◌≡◌, ℕ, ◌+◌, ◌*◌, ◌<◌, ◌≤◌, Bool, true, false, ◌&&◌, eqb, ltb, leb, ◌⊎◌, List, sym, ap, ◌∙◌, ⊎_elim, arith}
 use Rattle.std.proofs.lemmas.Bool.{and_parts, and_from, and_left, and_right, cond-true, cond-false, eqb-true, eq-eqb, ne_eqb, lt-ltb, le-ltb, le-leb, lt-leb, cases_lt}
+use Rattle.std.proofs.Math.Bool.{and-true}
 use Rattle.std.proofs.lemmas.Bool.Decides.{same_from_decides}
 use Rattle.format.specs.declared.layout.Span.{Span}
 use Rattle.format.specs.Bytes.{word_at, up_to}
 use Rattle.format.specs.Tests.{storable, count_at, code_at, field_readable, field_agrees, extends, descends, class_readable}
 use Rattle.format.proofs.Ranges.{up_to_all, up_to_at}
-
-and_true : (b : Bool) → (b && true) ≡ b
-and_true true = refl
-and_true false = refl
 
 module _ (bs : List ℕ) (s : Span) (i : ℕ) where
   abbrev at : ℕ
@@ -29,7 +26,7 @@ module _ (bs : List ℕ) (s : Span) (i : ℕ) where
       let d : descends bs s.start i ≡ true =
       cond-true (eqb i 0) (eqb (word_at bs at) 0 && eqb (count_at bs at) 0) (ltb (word_at bs at) i && extends bs at up) (eq-eqb i 0 z)
       ∙ and_from (eqb (word_at bs at) 0) (eqb (count_at bs at) 0) (eq-eqb _ _ p) (eq-eqb _ _ c) in
-      e ∙ sym (ap (λ b. b && (fields && descends bs s.start i)) few ∙ ap (λ b. fields && b) d ∙ and_true fields)
+      e ∙ sym (ap (λ b. b && (fields && descends bs s.start i)) few ∙ ap (λ b. fields && b) d ∙ and-true fields)
 
   -- any other class, whose parent has a lower number and no more fields
   module _ (before : (j : ℕ) → j < i → class_readable bs s j ≡ true) (z : i ≡ 0 → ⊥) (low : word_at bs at < i) (more : count_at bs up ≤ count_at bs at) (few : count_at bs at ≤ 8) where

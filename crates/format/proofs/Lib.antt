@@ -19,3 +19,4 @@ pub mod Complete
 pub mod Refused
 pub mod Meanings
 pub mod Inherited
+pub mod Finding

@@ -1,5 +1,5 @@
 -- What a reading's answer means: the two halves that `read` promises.
-use Rattle.std.proofs.Common.{◌≡◌, ℕ, List, Ok, Err, Result, sym, ◌∙◌, subst, arith}
+use Rattle.std.proofs.Common.{◌≡◌, ℕ, List, Ok, Err, Result, sym, ◌∙◌, subst}
 use Rattle.format.specs.declared.layout.Layout.{Layout}
 use Rattle.format.specs.declared.refusal.ReadError.{ReadError}
 use Rattle.format.specs.Bytes.{AllBytes}
@@ -25,7 +25,7 @@ refused_no_unit bs x bytes h q e =
     apart (sym (passes_reading bs (encodes_passes bs q bytes e).0) ∙ h)
   where
     apart : ◌≡◌ {A = Result Layout ReadError} (Ok (layout_in bs)) (Err x) → ⊥
-    apart z = let y : ◌≡◌ {A = ℕ} 0 1 = cc in omega arith
+    apart z = cc
 
 pub refused_means : (bs : List ℕ) (x : ReadError) → AllBytes bs → reading bs ≡ Err x → FirstWrong bs x × NoUnit bs
 refused_means bs x bytes h = (refused_first bs bytes x h, refused_no_unit bs x bytes h)

@@ -128,7 +128,7 @@ module _ (bs : List ℕ) (bytes : AllBytes bs) where
       ended e.1))))))
     where
       ended : ◌≡◌ {A = Result Layout ReadError} (Ok (layout_in bs)) (Err x) → FirstWrong bs x ⊎ ⊥
-      ended e = let z : ◌≡◌ {A = ℕ} 0 1 = cc in absurd (omega arith)
+      ended e = absurd (cc)
 
       only : FirstWrong bs x ⊎ ⊥ → FirstWrong bs x
       only (inl w) = w

@@ -6,7 +6,7 @@ use Rattle.format.specs.Bytes.{byte_at, slice}
 use Rattle.format.specs.Reading.{field_end, places_of, body_length, head_reads, sized}
 use Rattle.format.specs.Stages.{FramePasses}
 use Rattle.format.specs.Right.{HeadRight, Sized}
-use Rattle.format.proofs.Slices.{slice_cons, slice_at, length_slice}
+use Rattle.format.proofs.Slices.{slice_cons, length_slice, first_said}
 use Rattle.format.proofs.Framing.{framed_parts}
 
 pub whole_records : (w n : ℕ) → n % w ≡ 0 → n ≡ w * (n / w)
@@ -56,6 +56,6 @@ right_head bs p r =
     let fits : field_end bs 0 ≤ length bs = (framed_parts bs 1 0 p.first).within in
     let n : ℕ = body_length 0 (places_of bs).classes in
     let len : n ≡ 2 = sym (length_slice bs 3 n (omega (arith, fits))) ∙ ap length r.here in
-    let v : byte_at bs 3 ≡ 1 = sym (slice_at bs 3 n 0 (omega (arith, len))) ∙ ap (λ xs. byte_at xs 0) r.here in
+    let v : byte_at bs 3 ≡ 1 = first_said bs _ 3 n (omega (arith, len)) r.here in
     and_from (eqb (places_of bs).classes 5) (eqb (byte_at bs 3) 1 && leb (byte_at bs 4) 16) (eq-eqb _ _ (omega (arith, len)))
     (and_from (eqb (byte_at bs 3) 1) (leb (byte_at bs 4) 16) (eq-eqb _ _ v) (le-leb _ _ r.shallow))

@@ -1,20 +1,15 @@
 -- Parts of a list of bytes: cut, joined again, and cut into records of one width.
 use Rattle.std.proofs.Common.{◌≡◌, ℕ, zero, suc, ◌+◌, ◌-◌, ◌*◌, ◌<◌, ◌≤◌, List, [], ◌∷◌, ◌++◌, map, length, get_or, take, drop, replicate, sym, refl, ap, ◌∙◌, mul-zero, mul-one, mul-suc, mul-add, arith}
 use Rattle.std.specs.List.{flat_map, range_with_len}
+use Rattle.std.proofs.Math.Seq.{take-add}
 use Rattle.std.proofs.lemmas.List.{drop_more, drop-drop, drop-take, length-take, length-take-le, length-drop, get_or-take, get_or-drop, take_all, take-take, drop_at, take_at, length-append, ext_get_or, length-replicate, get_or-replicate}
 use Rattle.format.specs.Bytes.{byte_at, slice}
 
 pub slice_cons : (bs : List ℕ) (at n : ℕ) → at < length bs → slice bs at (suc n) ≡ byte_at bs at ∷ slice bs (at + 1) n
 slice_cons bs at n h = rw (drop_more bs at 0 h)
 
--- a front of a list, cut in two
-take_add : (m n : ℕ) (xs : List ℕ) → take (m + n) xs ≡ take m xs ++ take n (drop m xs)
-take_add zero n xs = let e : 0 + n ≡ n = omega arith in rw e
-take_add (suc m) n [] = let e : suc m + n ≡ suc (m + n) = omega arith in rw e (sym (take_all n [] (omega arith)))
-take_add (suc m) n (x ∷ xs) = let e : suc m + n ≡ suc (m + n) = omega arith in rw e (ap (λ ys. x ∷ ys) (take_add m n xs))
-
 pub slice_append : (bs : List ℕ) (at m n : ℕ) → slice bs at (m + n) ≡ slice bs at m ++ slice bs (at + m) n
-slice_append bs at m n = take_add m n (drop at bs) ∙ ap (λ ys. take m (drop at bs) ++ take n ys) (drop-drop m at bs)
+slice_append bs at m n = take-add m n (drop at bs) ∙ ap (λ ys. take m (drop at bs) ++ take n ys) (drop-drop m at bs)
 
 pub length_slice : (bs : List ℕ) (at n : ℕ) → at + n ≤ length bs → length (slice bs at n) ≡ n
 length_slice bs at n h = length-take-le n (drop at bs) (omega (arith, length-drop at bs))
@@ -25,6 +20,13 @@ slice_within bs at n p h = omega (arith, length-take n (drop at bs), length-drop
 
 pub slice_at : (bs : List ℕ) (at n k : ℕ) → k < n → byte_at (slice bs at n) k ≡ byte_at bs (at + k)
 slice_at bs at n k h = get_or-take n (drop at bs) k 0 h ∙ get_or-drop at bs k 0
+
+-- what stands in a part whose bytes are known: at any place of it, and at its first
+pub byte_said : (bs cs : List ℕ) (at n k : ℕ) → k < n → slice bs at n ≡ cs → byte_at bs (at + k) ≡ byte_at cs k
+byte_said bs cs at n k l h = sym (slice_at bs at n k l) ∙ ap (λ xs. byte_at xs k) h
+
+pub first_said : (bs cs : List ℕ) (at n : ℕ) → 0 < n → slice bs at n ≡ cs → byte_at bs at ≡ byte_at cs 0
+first_said bs cs at n l h = let z : at ≡ at + 0 = omega arith in ap (byte_at bs) z ∙ byte_said bs cs at n 0 l h
 
 pub slice_whole : (bs : List ℕ) → slice bs 0 (length bs) ≡ bs
 slice_whole bs = take_all (length bs) bs (omega arith)

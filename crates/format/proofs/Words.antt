@@ -1,12 +1,12 @@
 -- Two-byte numbers and the codes of kinds survive writing and reading.
-use Rattle.std.proofs.Common.{◌≡◌, ℕ, ◌+◌, ◌*◌, ◌/◌, ◌%◌, ◌<◌, ◌≤◌, Bool, true, false, cond, eqb, List, [], ◌∷◌, sym, refl, ap, ◌∙◌, arith}
+use Rattle.std.proofs.Common.{◌≡◌, ℕ, ◌+◌, ◌*◌, ◌/◌, ◌%◌, ◌<◌, ◌≤◌, Bool, true, false, cond, eqb, List, [], ◌∷◌, sym, refl, ◌∙◌, arith}
 use Rattle.std.proofs.lemmas.Bool.{cond-false, ne_eqb, eqb-true}
 use Rattle.kinds.specs.declared.kind.Kind.{Kind}
 use Rattle.kinds.specs.declared.kind.Kind.TheVariants.{Int, Null, Unusable, Class}
 use Rattle.kinds.specs.Codes.{kind_of, kind_code}
 use Rattle.format.specs.Bytes.{byte_at, word_at, word, slice}
 use Rattle.format.specs.Rules.{Storable}
-use Rattle.format.proofs.Slices.{slice_at}
+use Rattle.format.proofs.Slices.{byte_said, first_said}
 
 pub word_of : (a b : ℕ) → b < 256 → word (a * 256 + b) ≡ a ∷ b ∷ []
 word_of a b h =
@@ -20,8 +20,8 @@ number_of n = omega arith
 -- bytes that are a number's two say that number
 pub word_said : (bs : List ℕ) (at n : ℕ) → slice bs at 2 ≡ word n → word_at bs at ≡ n
 word_said bs at n h =
-    let a : byte_at bs at ≡ n / 256 = (let z : at + 0 ≡ at = omega arith in ap (byte_at bs) (sym z) ∙ sym (slice_at bs at 2 0 (omega arith)) ∙ ap (λ xs. byte_at xs 0) h) in
-    let b : byte_at bs (at + 1) ≡ n % 256 = sym (slice_at bs at 2 1 (omega arith)) ∙ ap (λ xs. byte_at xs 1) h in
+    let a : byte_at bs at ≡ n / 256 = first_said bs (word n) at 2 (omega arith) h in
+    let b : byte_at bs (at + 1) ≡ n % 256 = byte_said bs (word n) at 2 1 (omega arith) h in
     omega (arith, number_of n)
 
 pub word_below : (bs : List ℕ) (at : ℕ) → byte_at bs at < 256 → byte_at bs (at + 1) < 256 → word_at bs at < 65536

@@ -1,5 +1,5 @@
 -- Bytes and two-byte numbers, the high byte first, and tests over a range of numbers.
-use Rattle.std.specs.Prelude.{ℕ, zero, suc, ◌+◌, ◌*◌, ◌/◌, ◌%◌, ◌<◌, Bool, true, cond, ◌&&◌, List, [], ◌∷◌, map, length, take, drop, Some, None, Option, slice_index}
+use Rattle.std.specs.Prelude.{◌≡◌, ℕ, zero, suc, ◌+◌, ◌*◌, ◌/◌, ◌%◌, ◌<◌, Bool, true, cond, ◌&&◌, List, [], ◌∷◌, map, length, take, drop, Some, None, Option, slice_index}
 use Rattle.std.specs.List.{range_with_len}
 
 -- each number of the list is a byte
@@ -35,3 +35,7 @@ up_to (suc n) f = f n && up_to n f
 abbrev pub first_failing : (ℕ → Bool) → ℕ → ℕ → Option ℕ
 first_failing f i zero = None
 first_failing f i (suc n) = cond (f i) (first_failing f (suc i) n) (Some i)
+
+-- an answer for k is what a test gives there, if the test passes at each number below k
+pub record Follows (f : ℕ → Bool) (k : ℕ) (b : Bool) : Type 0 where
+  pub after : ((j : ℕ) → j < k → f j ≡ true) → b ≡ f k

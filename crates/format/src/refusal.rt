@@ -4,7 +4,8 @@ ghost use Rattle.format.specs.Refusals.{read_refusal};
 use std::fmt;
 
 /// Why bytes are no unit: the first thing that is wrong, and where.
-#[derive(Clone, Copy)]
+// A wrong size of a table is kept as its place 0, with no variant of its own: a rule of the project names both by that place.
+#[derive(Clone, Copy, Debug, PartialEq, Eq, Hash)]
 pub enum ReadError {
     /// A field does not stand whole at this byte, or bytes are left over from it on.
     Framing(usize),
@@ -19,7 +20,8 @@ pub enum ReadError {
 }
 
 /// A refusal as five numbers; those that say nothing are 0.
-#[derive(Clone, Copy)]
+// Kept as numbers: a rule of the project names every refusal by these five.
+#[derive(Clone, Copy, Debug, Default, PartialEq, Eq, Hash)]
 pub struct Refusal {
     pub number: u8,
     pub place: usize,
@@ -30,11 +32,13 @@ pub struct Refusal {
 
 impl fmt::Display for Refusal {
     fn fmt<W: fmt::Write>(&self, f: &mut fmt::Formatter<W>) -> fmt::Result {
-        let number = self.number;
-        let place = self.place;
-        let layer = self.layer;
-        let fault = self.fault;
-        let detail = self.detail;
+        let Refusal {
+            number,
+            place,
+            layer,
+            fault,
+            detail,
+        } = *self;
         write!(
             f,
             "{number} place {place} layer {layer} fault {fault} detail {detail}"
@@ -42,12 +46,12 @@ impl fmt::Display for Refusal {
     }
 }
 
-impl ReadError {
-    /// The five numbers of a refused reading.
-    pub fn refusal(self) -> Refusal
-        ensures { result ≡ read_refusal self }
-    {
-        let (number, place) = match self {
+/// The five numbers of a refused reading.
+impl From<ReadError> for Refusal {
+    ghost from_gives = { λ error r. r ≡ read_refusal error };
+
+    fn from(error: ReadError) -> Refusal {
+        let (number, place) = match error {
             ReadError::Framing(place) => (1, place),
             ReadError::Head => (2, 0),
             ReadError::Class(class) => (3, class),
@@ -57,9 +61,7 @@ impl ReadError {
         Refusal {
             number,
             place,
-            layer: 0,
-            fault: 0,
-            detail: 0,
+            ..Refusal::default()
         }
     }
 }

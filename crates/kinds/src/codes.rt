@@ -9,11 +9,11 @@ const NULL: u16 = 0xFFFE;
 
 const UNUSABLE: u16 = 0xFFFD;
 
-impl Kind {
-    /// The kind that two bytes of a file stand for.
-    pub fn from_code(code: u16) -> Kind
-        ensures { result ≡ kind_of code }
-    {
+/// The kind that two bytes of a file stand for.
+impl From<u16> for Kind {
+    ghost from_gives = { λ code r. r ≡ kind_of code };
+
+    fn from(code: u16) -> Kind {
         match code {
             INT => Kind::Int,
             NULL => Kind::Null,
@@ -21,12 +21,14 @@ impl Kind {
             class => Kind::Class(class),
         }
     }
+}
 
-    /// The two bytes that stand for a kind.
-    pub fn code(self) -> u16
-        ensures { result ≡ kind_code self }
-    {
-        match self {
+/// The two bytes that stand for a kind.
+impl From<Kind> for u16 {
+    ghost from_gives = { λ k r. r ≡ kind_code k };
+
+    fn from(kind: Kind) -> u16 {
+        match kind {
             Kind::Int => INT,
             Kind::Null => NULL,
             Kind::Unusable => UNUSABLE,

@@ -1,5 +1,5 @@
 /// What a value may be used as.
-#[derive(Clone, Copy)]
+#[derive(Clone, Copy, Debug, PartialEq, Eq, Hash)]
 pub enum Kind {
     /// A signed 32-bit number.
     Int,

@@ -2,5 +2,6 @@
 #![tactic(auto)]
 
 pub mod codes;
+pub mod display;
 pub mod equal;
 pub mod kind;

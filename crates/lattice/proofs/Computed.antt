@@ -42,22 +42,12 @@ is_a_decides p low c d = climbs_decides p low c c d (omega arith)
 
 -- the order's test decides the order
 pub lies_decides : (p : Parts) → Lower p → (a b : Kind) → Decides (lies p a b) (Below p a b)
-lies_decides p low Int Int = yes same
-lies_decides p low Int Null = no (λ h. elim h [ ])
-lies_decides p low Int Unusable = yes unusable
-lies_decides p low Int (Class d) = no (λ h. elim h [ ])
-lies_decides p low Null Int = no (λ h. elim h [ ])
-lies_decides p low Null Null = yes same
-lies_decides p low Null Unusable = yes unusable
-lies_decides p low Null (Class d) = yes null
-lies_decides p low Unusable Int = no (λ h. elim h [ ])
-lies_decides p low Unusable Null = no (λ h. elim h [ ])
-lies_decides p low Unusable Unusable = yes same
-lies_decides p low Unusable (Class d) = no (λ h. elim h [ ])
-lies_decides p low (Class c) Int = no (λ h. elim h [ ])
-lies_decides p low (Class c) Null = no (λ h. elim h [ ])
-lies_decides p low (Class c) Unusable = yes unusable
 lies_decides p low (Class c) (Class d) = is_a_decides p low c d
+lies_decides p low Int Int = yes same
+lies_decides p low Null Null = yes same
+lies_decides p low Null (Class d) = yes null
+lies_decides p low a Unusable = yes unusable
+lies_decides p low a b = no (λ h. elim h [ ])
 
 -- of a class and itself, the class
 equal_least : (p : Parts) (c d : ℕ) → c ≡ d → Least p (Class c) (Class d) (Class c)
@@ -94,28 +84,17 @@ meet_least p low (suc n) c d s =
 with_int : (p : Parts) (a : Kind) → (a ≡ Int → ⊥) → Least p Int a Unusable
 with_int p a ne = least_swap p a Int Unusable (int_least p a Int ne refl)
 
--- neither null nor a class is int
-null_int : Null ≡ Int → ⊥
-null_int e = let z : ◌≡◌ {A = ℕ} 0 1 = cc in omega arith
-
-class_int : (c : ℕ) → Class c ≡ Int → ⊥
-class_int c e = let z : ◌≡◌ {A = ℕ} 0 1 = cc in omega arith
-
 -- what is computed is the least
 pub least_of_is_least : (p : Parts) → Lower p → (a b : Kind) → Least p a b (least_of p a b)
-least_of_is_least p low Int Int = least_above p Int Int Int same refl
-least_of_is_least p low Int Null = with_int p Null null_int
-least_of_is_least p low Int Unusable = unusable_least p Int Unusable refl
-least_of_is_least p low Int (Class d) = with_int p (Class d) (class_int d)
-least_of_is_least p low Null Int = int_least p Null Int null_int refl
-least_of_is_least p low Null Null = least_above p Null Null Null same refl
-least_of_is_least p low Null Unusable = unusable_least p Null Unusable refl
-least_of_is_least p low Null (Class d) = least_above p Null (Class d) (Class d) null refl
-least_of_is_least p low Unusable b = least_swap p b Unusable Unusable (unusable_least p b Unusable refl)
-least_of_is_least p low (Class c) Int = int_least p (Class c) Int (class_int c) refl
-least_of_is_least p low (Class c) Null = least_swap p Null (Class c) (Class c) (least_above p Null (Class c) (Class c) null refl)
-least_of_is_least p low (Class c) Unusable = unusable_least p (Class c) Unusable refl
 least_of_is_least p low (Class c) (Class d) = meet_least p low (suc (c + d)) c d (omega arith)
+least_of_is_least p low Int Int = least_above p Int Int Int same refl
+least_of_is_least p low Null Null = least_above p Null Null Null same refl
+least_of_is_least p low Null (Class d) = least_above p Null (Class d) (Class d) null refl
+least_of_is_least p low (Class c) Null = least_swap p Null (Class c) (Class c) (least_above p Null (Class c) (Class c) null refl)
+least_of_is_least p low Unusable b = least_swap p b Unusable Unusable (unusable_least p b Unusable refl)
+least_of_is_least p low a Unusable = unusable_least p a Unusable refl
+least_of_is_least p low Int b = with_int p b (λ e. cc)
+least_of_is_least p low a Int = int_least p a Int (λ e. cc) refl
 
 -- no two kinds are both least
 pub least_unique : (p : Parts) → Lower p → (a b j k : Kind) → Least p a b j → Least p a b k → j ≡ k

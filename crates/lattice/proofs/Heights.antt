@@ -2,7 +2,7 @@
 use Rattle.std.proofs.Common.{◌≡◌, ℕ, zero, suc, ◌<◌, ◌≤◌, Bool, true, false, cond, ◌&&◌, ltb, ◌⊎◌, length, sym, refl, ap, ◌∙◌, inl, inr, ⊎_elim, arith}
 use Rattle.std.proofs.lemmas.Bool.{ltb-true, lt-ltb, le-ltb, and_parts, and_from, and_left, and_right, cond-true, cond-false, cases_eq, cases_lt}
 use Rattle.kinds.specs.declared.kind.Kind.{Kind}
-use Rattle.kinds.specs.declared.kind.Kind.TheVariants.{Int, Null, Unusable, Class}
+use Rattle.kinds.specs.declared.kind.Kind.TheVariants.{Unusable}
 use Rattle.format.specs.Parts.{Parts, parent_of}
 use Rattle.lattice.specs.Order.{Ancestor, parent, further, Below, same, unusable, null, ancestor, Lower}
 use Rattle.lattice.specs.Height.{count_from, ancestors, most, deepest, kind_height}
@@ -67,10 +67,8 @@ deepest_most p c =
 
 -- every kind but unusable stands higher than unusable
 unusable_lowest : (p : Parts) (a : Kind) → (a ≡ Unusable) ⊎ (0 < kind_height p a)
-unusable_lowest p Int = inr (omega arith)
-unusable_lowest p Null = inr (omega arith)
 unusable_lowest p Unusable = inl refl
-unusable_lowest p (Class c) = inr (omega arith)
+unusable_lowest p a = inr (omega arith)
 
 -- above a kind lie itself and kinds of lower height
 pub height_falls : (p : Parts) → Lower p → (a b : Kind) → Below p a b → (a ≡ b) ⊎ (kind_height p b < kind_height p a)

@@ -7,15 +7,11 @@ use Rattle.lattice.specs.Order.{Below, same, unusable, null, ancestor, Order, Lo
 use Rattle.lattice.proofs.Ancestors.{ancestor_lower, ancestor_further}
 
 pub below_further : (p : Parts) {a b c : Kind} → Below p a b → Below p b c → Below p a c
-below_further p same h = h
-below_further p unusable same = unusable
-below_further p unusable unusable = unusable
-below_further p null same = null
-below_further p null unusable = unusable
-below_further p null (ancestor b) = null
-below_further p (ancestor a) same = ancestor a
-below_further p (ancestor a) unusable = unusable
 below_further p (ancestor a) (ancestor b) = ancestor (ancestor_further p a b)
+below_further p null (ancestor b) = null
+below_further p same h = h
+below_further p h same = h
+below_further p h unusable = unusable
 
 pub below_both : (p : Parts) → Lower p → {a b : Kind} → Below p a b → Below p b a → a ≡ b
 below_both p low same h = refl

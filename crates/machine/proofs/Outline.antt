@@ -50,31 +50,26 @@ idle c o n f l =
 two_idle : (c : Configuration) (o : Opcode) (n : ℕ) → Blames c o n 2
 two_idle c o n = idle c o n 2 (omega arith)
 
--- the instructions that leave slots and row as they were and pass on
-plain : (c : Configuration) (o : Opcode) (n : ℕ) (vs : List Value) → (o ≡ Store → ⊥) → (o ≡ Post → ⊥) → passes (line_of o).ways ≡ true → Went c o n (goes_at c (c.at + 1) vs)
-plain c o n vs s t w = record { along = onward w; slots = kept s; row = kept t }
-
-leaps : (c : Configuration) (o : Opcode) (n : ℕ) (vs : List Value) → (o ≡ Store → ⊥) → (o ≡ Post → ⊥) → jumps (line_of o).ways ≡ true → Went c o n (goes_at c n vs)
-leaps c o n vs s t w = record { along = away w; slots = kept s; row = kept t }
-
 -- opcodes are told apart by their numbers in the table
 no_store : (o : Opcode) → eqb (opcode_number o) 3 ≡ false → o ≡ Store → ⊥
-no_store o e q = let z : ◌≡◌ {A = Bool} true false = subst (λ (x : Opcode). eqb (opcode_number x) 3 ≡ false) q e in let y : ◌≡◌ {A = ℕ} 0 1 = cc in omega arith
+no_store o e q = grind arith
 
 no_post : (o : Opcode) → eqb (opcode_number o) 13 ≡ false → o ≡ Post → ⊥
-no_post o e q = let z : ◌≡◌ {A = Bool} true false = subst (λ (x : Opcode). eqb (opcode_number x) 13 ≡ false) q e in let y : ◌≡◌ {A = ℕ} 0 1 = cc in omega arith
+no_post o e q = grind arith
 
 module _ (p : Parts) (c : Configuration) (n : ℕ) where
-  on : (o : Opcode) (vs : List Value) → eqb (opcode_number o) 3 ≡ false → eqb (opcode_number o) 13 ≡ false → passes (line_of o).ways ≡ true → Expects (Went c o n) (Blames c o n) (next p c vs)
-  on o vs s t w = next_expected (Went c o n) (Blames c o n) p c vs (plain c o n vs (no_store o s) (no_post o t) w) (two_idle c o n)
-
-  off : (o : Opcode) (vs : List Value) → eqb (opcode_number o) 3 ≡ false → eqb (opcode_number o) 13 ≡ false → jumps (line_of o).ways ≡ true → Expects (Went c o n) (Blames c o n) (allowed p (goes_at c n vs))
-  off o vs s t w = allowed_expected (Went c o n) (Blames c o n) p (goes_at c n vs) (leaps c o n vs (no_store o s) (no_post o t) w) (two_idle c o n)
-
   on_objects : (o : Opcode) (os : List Object) (vs : List Value) → eqb (opcode_number o) 3 ≡ false → eqb (opcode_number o) 13 ≡ false → passes (line_of o).ways ≡ true → Expects (Went c o n) (Blames c o n) (next p (with_objects c os) vs)
   on_objects o os vs s t w =
       next_expected (Went c o n) (Blames c o n) p (with_objects c os) vs
       (record { along = onward w; slots = kept (no_store o s); row = kept (no_post o t) }) (two_idle c o n)
+
+  on : (o : Opcode) (vs : List Value) → eqb (opcode_number o) 3 ≡ false → eqb (opcode_number o) 13 ≡ false → passes (line_of o).ways ≡ true → Expects (Went c o n) (Blames c o n) (next p c vs)
+  on o vs s t w = on_objects o c.objects vs s t w
+
+  off : (o : Opcode) (vs : List Value) → eqb (opcode_number o) 3 ≡ false → eqb (opcode_number o) 13 ≡ false → jumps (line_of o).ways ≡ true → Expects (Went c o n) (Blames c o n) (allowed p (goes_at c n vs))
+  off o vs s t w =
+      allowed_expected (Went c o n) (Blames c o n) p (goes_at c n vs)
+      (record { along = away w; slots = kept (no_store o s); row = kept (no_post o t) }) (two_idle c o n)
 
   loads_outline : (vs : List Value) (v : Option Value) → get_or c.slots n None ≡ v → Expects (Went c Load n) (Blames c Load n) (loads p c vs v)
   loads_outline vs None e =

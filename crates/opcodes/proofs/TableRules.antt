@@ -1,10 +1,12 @@
 -- What the computed test of the whole opcode table says of each of its lines.
-use Rattle.std.proofs.Common.{◌≡◌, ℕ, zero, suc, ◌+◌, ◌<◌, Bool, true, false, cond, ltb, List, [], ◌∷◌, length, get_or, Some, None, sym, refl, ap, ◌∙◌, add-zero, arith}
+use Rattle.std.proofs.Common.{◌≡◌, ℕ, zero, suc, ◌+◌, ◌<◌, true, ltb, List, [], ◌∷◌, length, get_or, Option, Some, None, Ok, sym, refl, ap, ◌∙◌, add-zero, arith}
+use Rattle.std.specs.Result.{result_ok}
 use Rattle.std.proofs.lemmas.Bool.{and_parts, eqb-true, ltb-true}
+use Rattle.std.proofs.lemmas.Option.{cond_some}
 use Rattle.opcodes.specs.declared.opcode.Opcode.{Opcode}
-use Rattle.opcodes.specs.declared.opcode.Opcode.TheVariants.{Push, Nil, Load, Store, Drop, Add, Less, Jump, Branch, Brnull, New, Get, Put, Post, Return}
+use Rattle.opcodes.specs.declared.opcode.Opcode.TheVariants.{Push}
 use Rattle.opcodes.specs.Numbers.{opcode_number}
-use Rattle.opcodes.specs.Table.{Line, table, line_at, line_of, opcode_at, opcode_of}
+use Rattle.opcodes.specs.Table.{Line, table, line_at, line_of, opcode_at, opcode_of, or_unknown, numbered}
 use Rattle.opcodes.specs.TableRule.{line_keeps, keep_from}
 
 keep_at : (ls : List Line) (d : Line) (i : ℕ) → keep_from i ls ≡ true → (k : ℕ) → k < length ls → line_keeps (i + k) (get_or ls k d) ≡ true
@@ -23,53 +25,30 @@ number_at n l =
 
 -- the line of the instruction that a number stands for is the line at that number
 pub line_at_opcode : (n : ℕ) (o : Opcode) → opcode_of n ≡ Some o → (n < 15) × (line_of o ≡ line_at n)
-line_at_opcode n o h = step (ltb n 15) refl h
-  where
-    step : (b : Bool) → ltb n 15 ≡ b → cond b (Some (opcode_at n)) None ≡ Some o → (n < 15) × (line_of o ≡ line_at n)
-    step true t e =
-        let l : n < 15 = ltb-true n 15 t in
-        let s : opcode_at n ≡ o = cc in
-        (l, ap line_at (ap opcode_number (sym s) ∙ number_at n l))
-    step false t e = let z : ◌≡◌ {A = ℕ} 0 1 = cc in absurd (omega arith)
+line_at_opcode n o h =
+    let s = cond_some (ltb n 15) (opcode_at n) o h in
+    let l : n < 15 = ltb-true n 15 s.0 in
+    (l, ap (λ x. line_at (opcode_number x)) (sym s.1) ∙ ap line_at (number_at n l))
 
 pub opcode_at_number : (n : ℕ) (o : Opcode) → opcode_of n ≡ Some o → opcode_at n ≡ o
-opcode_at_number n o h = step (ltb n 15) h
-  where
-    step : (b : Bool) → cond b (Some (opcode_at n)) None ≡ Some o → opcode_at n ≡ o
-    step true e = cc
-    step false e = let z : ◌≡◌ {A = ℕ} 0 1 = cc in absurd (omega arith)
+opcode_at_number n o h = (cond_some (ltb n 15) (opcode_at n) o h).1
 
 pub number_below : (o : Opcode) → opcode_number o < 15
 number_below Push = omega arith
-number_below Nil = omega arith
-number_below Load = omega arith
-number_below Store = omega arith
-number_below Drop = omega arith
-number_below Add = omega arith
-number_below Less = omega arith
-number_below Jump = omega arith
-number_below Branch = omega arith
-number_below Brnull = omega arith
-number_below New = omega arith
-number_below Get = omega arith
-number_below Put = omega arith
-number_below Post = omega arith
-number_below Return = omega arith
+number_below o = omega arith
 
 -- an instruction is the one that its number stands for
 pub at_number : (o : Opcode) → opcode_at (opcode_number o) ≡ o
 at_number Push = refl
-at_number Nil = refl
-at_number Load = refl
-at_number Store = refl
-at_number Drop = refl
-at_number Add = refl
-at_number Less = refl
-at_number Jump = refl
-at_number Branch = refl
-at_number Brnull = refl
-at_number New = refl
-at_number Get = refl
-at_number Put = refl
-at_number Post = refl
-at_number Return = refl
+at_number o = refl
+
+pub numbered_if_ok : (n : ℕ) → result_ok (numbered n) ≡ opcode_of n
+numbered_if_ok n = step (opcode_of n)
+  where
+    step : (m : Option Opcode) → result_ok (or_unknown n m) ≡ m
+    step (Some x) = refl
+    step None = refl
+
+-- the instruction that a byte was turned into is that of its number
+pub numbered_ok : (n : ℕ) (o : Opcode) → numbered n ≡ Ok o → opcode_of n ≡ Some o
+numbered_ok n o h = sym (numbered_if_ok n) ∙ ap result_ok h

@@ -1,3 +1,4 @@
 pub mod Table
 pub mod Numbers
 pub mod TableRule
+pub mod Operands

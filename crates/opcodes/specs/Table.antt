@@ -1,8 +1,9 @@
 -- The opcode table: of each instruction, in the order of the numbers, its name, what it takes off the stack (the top
 -- last) and leaves, what its two-byte number names, and where a run goes on after it.
-use Rattle.std.specs.Prelude.{ℕ, cond, List, [], ◌∷◌, Some, None, codes, Option, nat_lt, slice_index_or}
+use Rattle.std.specs.Prelude.{ℕ, cond, List, [], ◌∷◌, Some, None, codes, Option, Ok, Err, Result, nat_lt, slice_index_or}
 use Rattle.opcodes.specs.declared.opcode.Opcode.{Opcode}
 use Rattle.opcodes.specs.declared.opcode.Opcode.TheVariants.{Push, Nil, Load, Store, Drop, Add, Less, Jump as Goto, Branch, Brnull, New, Get, Put, Post, Return}
+use Rattle.opcodes.specs.declared.opcode.UnknownOpcode.{UnknownOpcode}
 use Rattle.opcodes.specs.declared.opcode.Shape.{Shape}
 use Rattle.opcodes.specs.declared.opcode.Shape.TheVariants.{Int, Null, Ref, Any, OfSlot, OfClass, OfOwner, OfField}
 use Rattle.opcodes.specs.declared.opcode.Takes.{Takes}
@@ -58,3 +59,11 @@ opcode_at n = (line_at n).opcode
 -- the instruction of a number, and none from 15 on
 abbrev pub opcode_of : ℕ → Option Opcode
 opcode_of n = cond (nat_lt n 15) (Some (opcode_at n)) None
+
+-- the same, with the number beside where there is none
+abbrev pub or_unknown : ℕ → Option Opcode → Result Opcode UnknownOpcode
+or_unknown n (Some o) = Ok o
+or_unknown n None = Err (record { byte = n })
+
+abbrev pub numbered : ℕ → Result Opcode UnknownOpcode
+numbered n = or_unknown n (opcode_of n)

@@ -1,5 +1,5 @@
 /// The instructions, in the order of their numbers in a file, from 0.
-#[derive(Clone, Copy)]
+#[derive(Clone, Copy, Debug, PartialEq, Eq, Hash)]
 pub enum Opcode {
     Push,
     Nil,
@@ -19,7 +19,7 @@ pub enum Opcode {
 }
 
 /// What an operand on the stack has to be, or is left as.
-#[derive(Clone, Copy)]
+#[derive(Clone, Copy, Debug, PartialEq, Eq, Hash)]
 pub enum Shape {
     Int,
     Null,
@@ -37,7 +37,7 @@ pub enum Shape {
 }
 
 /// The operands that an instruction takes off the stack, the top one last.
-#[derive(Clone, Copy)]
+#[derive(Clone, Copy, Debug, PartialEq, Eq, Hash)]
 pub enum Takes {
     Nothing,
     One(Shape),
@@ -45,7 +45,7 @@ pub enum Takes {
 }
 
 /// What an instruction's two-byte number names.
-#[derive(Clone, Copy)]
+#[derive(Clone, Copy, Debug, PartialEq, Eq, Hash)]
 pub enum Sort {
     /// Nothing: the number is 0.
     Unused,
@@ -60,7 +60,7 @@ pub enum Sort {
 }
 
 /// Where a run goes on after an instruction.
-#[derive(Clone, Copy)]
+#[derive(Clone, Copy, Debug, PartialEq, Eq, Hash)]
 pub enum Ways {
     /// At the following instruction.
     Next,
@@ -73,7 +73,7 @@ pub enum Ways {
 }
 
 /// All that the table says of one instruction.
-#[derive(Clone, Copy)]
+#[derive(Clone, Copy, Debug, PartialEq, Eq, Hash)]
 pub struct Row {
     pub opcode: Opcode,
     pub name: &'static str,
@@ -83,8 +83,14 @@ pub struct Row {
     pub ways: Ways,
 }
 
+/// A byte that is the number of no instruction.
+#[derive(Clone, Copy, Debug, PartialEq, Eq, Hash)]
+pub struct UnknownOpcode {
+    pub byte: u8,
+}
+
 /// One instruction of a rule: what to do, and its two-byte number.
-#[derive(Clone, Copy)]
+#[derive(Clone, Copy, Debug, PartialEq, Eq, Hash)]
 pub struct Instruction {
     pub opcode: Opcode,
     pub operand: u16,

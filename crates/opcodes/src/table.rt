@@ -1,9 +1,9 @@
 ghost use Rattle.std.specs.Prelude.{◌≡◌, true};
-ghost use Rattle.opcodes.specs.Table.{line_of, opcode_of, table as table_of};
+ghost use Rattle.opcodes.specs.Table.{line_of, numbered, table as table_of};
 ghost use Rattle.opcodes.specs.Numbers.{opcode_number};
 ghost use Rattle.opcodes.specs.TableRule.{every_line_keeps, jumps};
 
-use crate::opcode::{Opcode, Row, Shape, Sort, Takes, Ways};
+use crate::opcode::{Opcode, Row, Shape, Sort, Takes, UnknownOpcode, Ways};
 
 static ROWS: [Row; 15] = [
     Row {
@@ -128,38 +128,44 @@ static ROWS: [Row; 15] = [
     },
 ];
 
-impl Opcode {
-    /// The instruction of a number, or none where there are only lower ones.
-    pub fn from_byte(byte: u8) -> Option<Opcode>
-        ensures { result ≡ opcode_of byte }
-    {
+/// The instruction of a number in a file.
+impl TryFrom<u8> for Opcode {
+    type Error = UnknownOpcode;
+
+    ghost try_from_gives = { λ byte r. r ≡ numbered byte };
+
+    fn try_from(byte: u8) -> Result<Opcode, UnknownOpcode> {
         match byte {
-            0 => Some(Opcode::Push),
-            1 => Some(Opcode::Nil),
-            2 => Some(Opcode::Load),
-            3 => Some(Opcode::Store),
-            4 => Some(Opcode::Drop),
-            5 => Some(Opcode::Add),
-            6 => Some(Opcode::Less),
-            7 => Some(Opcode::Jump),
-            8 => Some(Opcode::Branch),
-            9 => Some(Opcode::Brnull),
-            10 => Some(Opcode::New),
-            11 => Some(Opcode::Get),
-            12 => Some(Opcode::Put),
-            13 => Some(Opcode::Post),
-            14 => Some(Opcode::Return),
-            _ => None,
+            0 => Ok(Opcode::Push),
+            1 => Ok(Opcode::Nil),
+            2 => Ok(Opcode::Load),
+            3 => Ok(Opcode::Store),
+            4 => Ok(Opcode::Drop),
+            5 => Ok(Opcode::Add),
+            6 => Ok(Opcode::Less),
+            7 => Ok(Opcode::Jump),
+            8 => Ok(Opcode::Branch),
+            9 => Ok(Opcode::Brnull),
+            10 => Ok(Opcode::New),
+            11 => Ok(Opcode::Get),
+            12 => Ok(Opcode::Put),
+            13 => Ok(Opcode::Post),
+            14 => Ok(Opcode::Return),
+            _ => Err(UnknownOpcode { byte }),
         }
     }
+}
 
-    /// The number of an instruction in a file.
-    pub fn number(self) -> u8
-        ensures { result ≡ opcode_number self }
-    {
-        self as u8
+/// The number of an instruction in a file.
+impl From<Opcode> for u8 {
+    ghost from_gives = { λ opcode r. r ≡ opcode_number opcode };
+
+    fn from(opcode: Opcode) -> u8 {
+        opcode as u8
     }
+}
 
+impl Opcode {
     /// What the table says of an instruction.
     pub fn row(self) -> Row
         ensures opcode { result.opcode ≡ self }
@@ -179,9 +185,6 @@ impl Ways {
     pub fn has_jump(self) -> bool
         ensures { result ≡ jumps self }
     {
-        match self {
-            Ways::Jump | Ways::Both => true,
-            Ways::Next | Ways::End => false,
-        }
+        matches!(self, Ways::Jump | Ways::Both)
     }
 }

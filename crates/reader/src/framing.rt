@@ -7,6 +7,14 @@ use crate::bytes::word;
 use format::layout::{Frame, Span};
 use format::refusal::ReadError;
 
+/// Bytes whose four fields lie one after another, and where.
+#[derive(Clone, Copy)]
+pub(crate) struct Fields<'a> {
+    pub(crate) bytes: &'a [u8],
+    pub(crate) frame: Frame,
+    ghost framed: { Framed (length bytes.now) frame },
+}
+
 /// The place after the field with this tag that starts at a place.
 fn after_field(bytes: &[u8], tag: u8, at: usize) -> Result<usize, ReadError>
     requires { at ≤ length bytes.now }
@@ -16,7 +24,7 @@ fn after_field(bytes: &[u8], tag: u8, at: usize) -> Result<usize, ReadError>
     if bytes.len() - at < 3 || bytes[at] != tag {
         return Err(ReadError::Framing(at));
     }
-    let end = at + 3 + word(bytes, at + 1) as usize;
+    let end = at + 3 + usize::from(word(bytes, at + 1));
     if end > bytes.len() {
         return Err(ReadError::Framing(at));
     }
@@ -43,17 +51,6 @@ pub(crate) fn framing(bytes: &[u8]) -> Result<Frame, ReadError>
     })
 }
 
-/// The depth that the head gives.
-pub(crate) fn head(bytes: &[u8], frame: Frame) -> Result<u8, ReadError>
-    requires { Framed (length bytes.now) frame }
-    ensures { result ≡ guard (head_reads bytes.now frame) Head (Ok (byte_at bytes.now 4)) }
-{
-    if frame.classes != 5 || bytes[3] != 1 || bytes[4] > 16 {
-        return Err(ReadError::Head);
-    }
-    Ok(bytes[4])
-}
-
 /// The records of a field that starts at a place, where the next one starts at another.
 pub(crate) fn table(at: usize, next: usize, width: usize, most: usize) -> Option<Span>
     requires { (at + 3 ≤ next) × (0 < width) }
@@ -67,4 +64,17 @@ pub(crate) fn table(at: usize, next: usize, width: usize, most: usize) -> Option
         start: at + 3,
         count: length / width,
     })
+}
+
+impl<'a> Fields<'a> {
+    /// The depth that the head gives.
+    pub(crate) fn head(self) -> Result<u8, ReadError>
+        ensures { result ≡ guard (head_reads self.entry.bytes.now self.entry.frame) Head (Ok (byte_at self.entry.bytes.now 4)) }
+    {
+        let bytes = self.bytes;
+        if self.frame.classes != 5 || bytes[3] != 1 || bytes[4] > 16 {
+            return Err(ReadError::Head);
+        }
+        Ok(bytes[4])
+    }
 }

@@ -1,33 +1,32 @@
 ghost use Rattle.std.specs.Prelude.{◌≡◌, length};
 ghost use Rattle.format.specs.Bytes.{AllBytes};
-ghost use Rattle.format.specs.Reading.{Framed, contents as contents_of, reading};
+ghost use Rattle.format.specs.Reading.{contents as contents_of, reading};
 
-use crate::bytes::are_bytes;
-use crate::classes::classes as read_classes;
-use crate::code::first_bad_instruction;
-use crate::framing::{framing, head, table};
-use crate::slots::slots as read_slots;
-use format::layout::{Frame, Layout};
+use crate::code::Code;
+use crate::framing::{Fields, framing, table};
+use format::layout::Layout;
 use format::refusal::ReadError;
 
-/// Where the parts of a well-framed unit lie, if they keep the rules.
-fn contents(bytes: &[u8], frame: Frame) -> Result<Layout, ReadError>
-    requires { Framed (length bytes.now) frame }
-    ensures { result ≡ contents_of bytes.now frame }
-{
-    let depth = head(bytes, frame)?;
-    let classes = read_classes(bytes, frame)?;
-    let slots = read_slots(bytes, frame, classes.count)?;
-    let code = table(frame.code, frame.end, 3, 1024).ok_or(ReadError::Code(0))?;
-    let layout = Layout {
-        depth,
-        classes,
-        slots,
-        code,
-    };
-    match first_bad_instruction(bytes, layout) {
-        Some(instruction) => Err(ReadError::Code(instruction)),
-        None => Ok(layout),
+impl<'a> Fields<'a> {
+    /// Where the parts of the unit lie, if they keep the rules.
+    fn contents(self) -> Result<Layout, ReadError>
+        ensures { result ≡ contents_of self.entry.bytes.now self.entry.frame }
+    {
+        let Fields { bytes, frame } = self;
+        let depth = self.head()?;
+        let classes = self.classes()?;
+        let slots = self.slots(classes.count)?;
+        let code = table(frame.code, frame.end, 3, 1024).ok_or(ReadError::Code(0))?;
+        let layout = Layout {
+            depth,
+            classes,
+            slots,
+            code,
+        };
+        match (Code { bytes, layout }).first_bad() {
+            Some(instruction) => Err(ReadError::Code(instruction)),
+            None => Ok(layout),
+        }
     }
 }
 
@@ -36,7 +35,6 @@ pub fn layout(bytes: &[u8]) -> Result<Layout, ReadError>
     ensures outcome { result ≡ reading bytes.now }
     ensures bytes { AllBytes bytes.now }
 {
-    are_bytes(bytes);
     let frame = framing(bytes)?;
-    contents(bytes, frame)
+    Fields { bytes, frame }.contents()
 }

@@ -6,4 +6,5 @@ mod classes;
 mod code;
 mod framing;
 pub mod layout;
+mod records;
 mod slots;

@@ -1,14 +1,14 @@
-ghost use Rattle.rows.specs.Meaning.{rows_meaning};
-ghost use Rattle.rows.specs.RowsLaws.{rows_laws};
+ghost use Rattle.rows_theory.specs.Meaning.{rows_meaning};
+ghost use Rattle.rows_theory.proofs.RowsLaws.{rows_laws};
 
-use crate::state::RowState;
 use analysis::analysis::Analysis;
 use analysis_theory::fault::{Cause, Fault, NoJoin, Unreadable};
 use opcodes::opcode::Opcode;
+use rows_theory::state::{LAYER, RowState};
 use unit::unit::Unit;
 
 /// The analysis of the row: whether one is held.
-#[derive(Clone, Copy)]
+#[derive(Clone, Copy, Debug, PartialEq, Eq, Hash)]
 pub struct Rows;
 
 impl Analysis for Rows {
@@ -23,51 +23,26 @@ impl Analysis for Rows {
     }
 
     fn below(&self, _unit: &Unit<'_>, a: &RowState, b: &RowState) -> bool {
-        match (*a, *b) {
-            (RowState::Empty, RowState::Empty)
-            | (RowState::Held, RowState::Held)
-            | (_, RowState::Perhaps) => true,
-            _ => false,
-        }
+        *a == *b || *b == RowState::Perhaps
     }
 
-    fn join(
-        &self,
-        _unit: &Unit<'_>,
-        into: &mut RowState,
-        other: &RowState,
-    ) -> Result<bool, NoJoin> {
-        match (*into, *other) {
-            (RowState::Empty, RowState::Empty)
-            | (RowState::Held, RowState::Held)
-            | (RowState::Perhaps, _) => Ok(false),
-            _ => {
-                *into = RowState::Perhaps;
-                Ok(true)
-            }
+    fn join(&self, unit: &Unit<'_>, into: &mut RowState, other: &RowState) -> Result<bool, NoJoin> {
+        if self.below(unit, other, into) {
+            return Ok(false);
         }
+        *into = RowState::Perhaps;
+        Ok(true)
     }
 
     fn effect(&self, unit: &Unit<'_>, at: usize, state: &mut RowState) -> Result<(), Fault> {
-        let Some(instruction) = unit.instruction(at) else {
-            return Err(Fault {
-                layer: 3,
-                cause: Cause::Outside,
-            });
-        };
+        let instruction = unit.instruction(at).ok_or(Cause::Outside.under(LAYER))?;
         match (instruction.opcode, *state) {
             (Opcode::Post, RowState::Empty) => {
                 *state = RowState::Held;
                 Ok(())
             }
-            (Opcode::Post, _) => Err(Fault {
-                layer: 3,
-                cause: Cause::RowHeld,
-            }),
-            (Opcode::Return, RowState::Empty | RowState::Perhaps) => Err(Fault {
-                layer: 3,
-                cause: Cause::NoRow,
-            }),
+            (Opcode::Post, _) => Err(Cause::RowHeld.under(LAYER)),
+            (Opcode::Return, RowState::Empty | RowState::Perhaps) => Err(Cause::NoRow.under(LAYER)),
             _ => Ok(()),
         }
     }
@@ -77,20 +52,13 @@ impl Analysis for Rows {
     }
 
     fn write(&self, unit: &Unit<'_>, state: &RowState, out: &mut [u8]) -> Option<usize> {
-        if out.is_empty() {
-            return None;
-        }
-        out[0] = state.byte();
+        let first = out.first_mut()?;
+        *first = u8::from(*state);
         self.size(unit, state)
     }
 
     fn read(&self, _unit: &Unit<'_>, bytes: &[u8]) -> Result<(RowState, usize), Unreadable> {
-        if bytes.is_empty() {
-            return Err(Unreadable { layer: 3 });
-        }
-        match RowState::from_byte(bytes[0]) {
-            Some(state) => Ok((state, 1)),
-            None => Err(Unreadable { layer: 3 }),
-        }
+        let byte = bytes.first().ok_or(Unreadable { layer: LAYER })?;
+        Ok((RowState::try_from(*byte)?, 1))
     }
 }

@@ -1,20 +1,14 @@
 -- A join rose exactly if the height fell.
-use Rattle.std.proofs.Common.{◌≡◌, ℕ, Bool, true, false, ltb, MatchBool, refl, ap, ⊎_elim, arith}
+use Rattle.std.proofs.Common.{◌≡◌, ℕ, ltb, MatchBool, arith}
 use lib.Count.{ones}
-use Rattle.std.proofs.lemmas.Bool.{ltb-true, ltb-false}
-use Rattle.slots.specs.declared.set.SlotSet.{SlotSet}
-use Rattle.slots.specs.Sets.{intersection}
-use Rattle.slots.specs.Bits.{same_or_fewer_ones}
-use Rattle.slots.specs.Same.{same_set}
+use Rattle.std.proofs.lemmas.Bool.Decides.{nat_tests}
+use Rattle.slots_theory.specs.declared.set.SlotSet.{SlotSet}
+use Rattle.slots_theory.specs.Sets.{intersection}
+use Rattle.slots_theory.proofs.Bits.{same_or_fewer_ones}
+use Rattle.slots_theory.proofs.Same.{same_set}
 
 abbrev height : SlotSet → ℕ
 height s = ones s.bits
 
-by_test : (a b : SlotSet) (t : Bool) → ltb (height (intersection a b)) (height a) ≡ t → MatchBool t (intersection a b ≡ a → ⊥) (intersection a b ≡ a)
-by_test a b true e = λ same. let less = ltb-true _ _ e in let equal = ap height same in omega arith
-by_test a b false e =
-    ⊎_elim (λ same. same_set (intersection a b) a same) (λ less. absurd (let no_less = ltb-false _ _ e in omega arith))
-    (same_or_fewer_ones a.bits b.bits)
-
 pub rose_if_fell : (a b : SlotSet) (after before : ℕ) → after ≡ height (intersection a b) → before ≡ height a → MatchBool (ltb after before) (intersection a b ≡ a → ⊥) (intersection a b ≡ a)
-rose_if_fell a b after before e f = rw (e, f) (by_test a b (ltb (height (intersection a b)) (height a)) refl)
+rose_if_fell a b after before e f = grind (arith, nat_tests, same_set, same_or_fewer_ones a.bits b.bits)

@@ -1,14 +1,17 @@
-ghost use Rattle.slots.specs.Meaning.{slots_meaning};
-ghost use Rattle.slots.specs.SlotsLaws.{slots_laws};
+ghost use Rattle.slots_theory.specs.Meaning.{slots_meaning};
+ghost use Rattle.slots_theory.proofs.SlotsLaws.{slots_laws};
 
-use crate::set::SlotSet;
 use analysis::analysis::Analysis;
 use analysis_theory::fault::{Cause, Fault, NoJoin, Unreadable};
 use opcodes::opcode::Opcode;
+use slots_theory::set::SlotSet;
 use unit::unit::Unit;
 
+/// The layer of this analysis.
+const LAYER: u8 = 2;
+
 /// The analysis of the slots: which of them are surely set.
-#[derive(Clone, Copy)]
+#[derive(Clone, Copy, Debug, PartialEq, Eq, Hash)]
 pub struct Slots;
 
 impl Analysis for Slots {
@@ -26,6 +29,7 @@ impl Analysis for Slots {
         a.contains_all(*b)
     }
 
+    #[tactic(auto, using(crate::proofs::Rising::rose_if_fell))]
     fn join(&self, _unit: &Unit<'_>, into: &mut SlotSet, other: &SlotSet) -> Result<bool, NoJoin> {
         let joined = into.intersection(*other);
         let rose = joined.height() < into.height();
@@ -34,26 +38,16 @@ impl Analysis for Slots {
     }
 
     fn effect(&self, unit: &Unit<'_>, at: usize, state: &mut SlotSet) -> Result<(), Fault> {
-        let Some(instruction) = unit.instruction(at) else {
-            return Err(Fault {
-                layer: 2,
-                cause: Cause::Outside,
-            });
-        };
+        let instruction = unit.instruction(at).ok_or(Cause::Outside.under(LAYER))?;
         let slot = instruction.operand;
         match instruction.opcode {
-            Opcode::Load => {
-                if !state.contains(slot) {
-                    return Err(Fault {
-                        layer: 2,
-                        cause: Cause::Unset { slot },
-                    });
-                }
+            Opcode::Load if !state.contains(slot) => Err(Cause::Unset { slot }.under(LAYER)),
+            Opcode::Store => {
+                *state = state.with_slot(slot);
+                Ok(())
             }
-            Opcode::Store => *state = state.with_slot(slot),
-            _ => {}
+            _ => Ok(()),
         }
-        Ok(())
     }
 
     fn size(&self, _unit: &Unit<'_>, _state: &SlotSet) -> Option<usize> {
@@ -61,20 +55,16 @@ impl Analysis for Slots {
     }
 
     fn write(&self, unit: &Unit<'_>, state: &SlotSet, out: &mut [u8]) -> Option<usize> {
-        if out.len() < 4 {
-            return None;
-        }
-        out[..4].copy_from_slice(&state.bits.to_be_bytes());
+        let front = out.first_chunk_mut::<4>()?;
+        *front = state.bits.to_be_bytes();
         self.size(unit, state)
     }
 
     fn read(&self, unit: &Unit<'_>, bytes: &[u8]) -> Result<(SlotSet, usize), Unreadable> {
-        if bytes.len() < 4 {
-            return Err(Unreadable { layer: 2 });
-        }
-        let bits = u32::from_be_bytes([bytes[0], bytes[1], bytes[2], bytes[3]]);
-        if bits as u64 >= 1 << unit.slot_count() {
-            return Err(Unreadable { layer: 2 });
+        let front = bytes.first_chunk::<4>().ok_or(Unreadable { layer: LAYER })?;
+        let bits = u32::from_be_bytes(*front);
+        if u64::from(bits) >= 1 << unit.slot_count() {
+            return Err(Unreadable { layer: LAYER });
         }
         Ok((SlotSet { bits }, 4))
     }

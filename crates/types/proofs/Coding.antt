@@ -1,82 +1,52 @@
 -- Writing a stack, code by code.
-use Rattle.std.proofs.Common.{◌≡◌, ℕ, suc, ◌+◌, ◌-◌, ◌*◌, ◌/◌, ◌%◌, ◌<◌, ◌≤◌, true, List, [], ◌∷◌, ◌++◌, length, get_or, drop, set, Some, sym, refl, ap, ◌∙◌, append_assoc, arith}
-use Rattle.std.proofs.lemmas.List.{drop_more, set_at, set-append_right, drop-set-lt}
+use Rattle.std.proofs.Common.{◌≡◌, ℕ, ◌+◌, ◌*◌, ◌/◌, ◌%◌, ◌<◌, ◌≤◌, List, [], ◌∷◌, ◌++◌, length, get_or, take, drop, reverse, Some, sym, ap, ◌∙◌, append_assoc, arith}
+use Rattle.std.proofs.lemmas.List.{take_at, drop_at, drop-drop, length-reverse, length-take-le}
+use borrow.Rule.Slice.PartMut.{put_mid}
 use Rattle.kinds.specs.declared.kind.Kind.{Kind}
 use Rattle.kinds.specs.declared.kind.Kind.TheVariants.{Int}
 use Rattle.kinds.specs.Codes.{kind_code}
 use Rattle.format.specs.Bytes.{word}
-use Rattle.types_theory.specs.Cells.{stack_in}
-use Rattle.analysis_theory.specs.Methods.{fits, written_in, written_length}
-use Rattle.analysis_theory.proofs.Writings.{Unwritten, some_size, room_unwritten, has_room}
-use Rattle.types_theory.specs.declared.operands.Operands.{Operands}
-use Rattle.types_theory.specs.Packing.{stack}
+use Rattle.analysis_theory.specs.Methods.{size_of}
+use Rattle.analysis_theory.proofs.Writings.{Unwritten, some_size, room_unwritten}
 use Rattle.types_theory.specs.Writing.{codes_up, stack_bytes}
 use Rattle.types_theory.proofs.Codes.{length_codes}
-use Rattle.types_theory.proofs.Packs.{stack_length}
+use Rattle.types.proofs.Upward.{stack_more}
 
 -- the depth and the first i codes stand in front of what the buffer held
-abbrev pub Coded : List Kind → ℕ → List ℕ → List ℕ → ℕ → Type 0
-Coded kinds d before after i = after ≡ (d ∷ codes_up (stack_in kinds i)) ++ drop (1 + 2 * i) before
+abbrev pub Coded : List Kind → List ℕ → List ℕ → ℕ → Type 0
+Coded kinds before after i = after ≡ (length kinds ∷ codes_up (reverse (take i kinds))) ++ drop (1 + 2 * i) before
 
-set_behind : (front rest : List ℕ) (x y z : ℕ) → set (front ++ (x ∷ y ∷ rest)) (length front + 1) z ≡ front ++ (x ∷ z ∷ rest)
-set_behind front rest x y z =
-    set-append_right front (x ∷ y ∷ rest) (length front) (length front + 1) z refl (omega arith)
-    ∙ ap (λ k. front ++ set (x ∷ y ∷ rest) k z) (let q : length front + 1 - length front ≡ 1 = omega arith in q)
+-- what is put behind a front
+put_behind : (front before bytes : List ℕ) (m k : ℕ) → length front ≡ m → put_mid m k (front ++ drop m before) bytes ≡ (front ++ bytes) ++ drop (m + k) before
+put_behind front before bytes m k n =
+    ap (λ xs. xs ++ (bytes ++ drop k (drop m (front ++ drop m before)))) (take_at front (drop m before) m n)
+    ∙ ap (λ xs. front ++ (bytes ++ drop k xs)) (drop_at front (drop m before) m n)
+    ∙ ap (λ xs. front ++ (bytes ++ xs)) (drop-drop k m before)
+    ∙ sym (append_assoc front bytes (drop (m + k) before))
 
--- two bytes behind a front
-two_set : (front before : List ℕ) (m hi lo : ℕ) → length front ≡ m → m + 2 ≤ length before → set (set (front ++ drop m before) m hi) (m + 1) lo ≡ (front ++ (hi ∷ lo ∷ [])) ++ drop (m + 2) before
-two_set front before m hi lo n l =
-    let first = drop_more before m 0 (omega arith) in
-    let then = drop_more before (m + 1) 0 (omega arith) in
-    let x = get_or before m 0 in
-    let y = get_or before (m + 1) 0 in
-    let rest = drop (m + 2) before in
-    let both : drop m before ≡ x ∷ y ∷ rest =
-    first ∙ ap (λ xs. x ∷ xs) (then ∙ ap (λ k. y ∷ drop k before) (let q : m + 1 + 1 ≡ m + 2 = omega arith in q)) in
-    ap (λ xs. set (set (front ++ xs) m hi) (m + 1) lo) both
-    ∙ ap (λ k. set (set (front ++ (x ∷ y ∷ rest)) k hi) (k + 1) lo) (sym n)
-    ∙ ap (λ xs. set xs (length front + 1) lo) (set_at front x (y ∷ rest) hi (length front) refl)
-    ∙ set_behind front rest hi y lo
-    ∙ sym (append_assoc front (hi ∷ lo ∷ []) rest)
+pub code_bytes : (n : ℕ) → n < 65536 → (n / 256 % 256) ∷ (n % 256) ∷ [] ≡ word n
+code_bytes n l = ap (λ k. k ∷ (n % 256) ∷ []) (let e : n / 256 % 256 ≡ n / 256 = omega arith in e)
 
-pub coded_none : (kinds : List Kind) (d : ℕ) (out : List ℕ) → 1 ≤ length out → Coded kinds d (set out 0 d) (set out 0 d) 0
-coded_none kinds d [] l = absurd (omega arith)
-coded_none kinds d (x ∷ xs) l = refl
+pub coded_more : (kinds : List Kind) (before out bytes : List ℕ) (i k : ℕ) → Coded kinds before out i → i < length kinds → k ≡ 2 → bytes ≡ word (kind_code (get_or kinds i Int)) → Coded kinds before (put_mid (1 + 2 * i) k out bytes) (i + 1)
+coded_more kinds before out bytes i k h l e f =
+    let front = length kinds ∷ codes_up (reverse (take i kinds)) in
+    let size : length front ≡ 1 + 2 * i =
+    omega (arith, length_codes (reverse (take i kinds)), length-reverse (take i kinds), length-take-le i kinds (omega arith)) in
+    ap (λ xs. put_mid (1 + 2 * i) k xs bytes) h
+    ∙ put_behind front before bytes (1 + 2 * i) k size
+    ∙ ap (λ xs. (front ++ xs) ++ drop (1 + 2 * i + k) before) f
+    ∙ ap (λ ks. (length kinds ∷ codes_up ks) ++ drop (1 + 2 * i + k) before) (sym (stack_more kinds i l))
+    ∙ ap (λ n. (length kinds ∷ codes_up (reverse (take (i + 1) kinds))) ++ drop n before) (let q : 1 + 2 * i + k ≡ 1 + 2 * (i + 1) = omega arith in q)
 
-pub coded_more : (kinds : List Kind) (d : ℕ) (before after : List ℕ) (i : ℕ) → Coded kinds d before after i → 1 + 2 * i + 2 ≤ length before → Coded kinds d before (set (set after (1 + 2 * i) (kind_code (get_or kinds i Int) / 256)) (2 + 2 * i) (kind_code (get_or kinds i Int) % 256)) (i + 1)
-coded_more kinds d before after i h l =
-    let k = kind_code (get_or kinds i Int) in
-    let front = d ∷ codes_up (stack_in kinds i) in
-    let size : length front ≡ 1 + 2 * i = let s = stack_length kinds i in let t = length_codes (stack_in kinds i) in omega arith in
-    let more : stack_in kinds (i + 1) ≡ get_or kinds i Int ∷ stack_in kinds i = ap (stack_in kinds) (let q : i + 1 ≡ suc i = omega arith in q) in
-    ap (λ xs. set (set xs (1 + 2 * i) (k / 256)) (2 + 2 * i) (k % 256)) h
-    ∙ ap (λ n. set (set (front ++ drop (1 + 2 * i) before) (1 + 2 * i) (k / 256)) n (k % 256)) (let q : 2 + 2 * i ≡ 1 + 2 * i + 1 = omega arith in q)
-    ∙ two_set front before (1 + 2 * i) (k / 256) (k % 256) size l
-    ∙ ap (λ n. (front ++ word k) ++ drop n before) (let q : 1 + 2 * i + 2 ≡ 1 + 2 * (i + 1) = omega arith in q)
-    ∙ ap (λ ks. (d ∷ codes_up ks) ++ drop (1 + 2 * (i + 1)) before) (sym more)
+-- a stack of that many kinds is written in so many bytes, which a field can hold
+stack_size : (ks : List Kind) → length (stack_bytes ks) ≡ 1 + 2 * length ks
+stack_size ks = omega (arith, length_codes ks)
 
--- all codes are written
-module _ (s : Operands) (out : List ℕ) where
-  size : 1 + 2 * s.depth ≡ length (stack_bytes (stack s))
-  size = let e = stack_length s.kinds s.depth in let f = length_codes (stack s) in omega arith
+pub sized : (ks : List Kind) (n : ℕ) → n ≡ length ks → n ≤ 16 → Some (1 + 2 * n) ≡ size_of (stack_bytes ks)
+sized ks n e few =
+    ap Some (let q : 1 + 2 * n ≡ length (stack_bytes ks) = omega (arith, stack_size ks) in q)
+    ∙ some_size (stack_bytes ks) (omega (arith, stack_size ks))
 
-  pub coded_short : length out < 1 + 2 * s.depth → Unwritten (stack_bytes (stack s)) out
-  coded_short l =
-      let f = s.few in
-      let e = size in
-      room_unwritten (stack_bytes (stack s)) out (length (stack_bytes (stack s))) (some_size (stack_bytes (stack s)) (omega arith)) (omega arith)
-
-  module _ (room : 1 + 2 * s.depth ≤ length out) where
-    fit : fits (stack_bytes (stack s)) out ≡ true
-    fit = let f = s.few in let e = size in has_room (stack_bytes (stack s)) out (omega arith) (omega arith)
-
-    pub coded_length : Some (1 + 2 * s.depth) ≡ written_length (stack_bytes (stack s)) out
-    coded_length = rw fit (ap Some size)
-
-    pub coded_all : (after : List ℕ) → Coded s.kinds s.depth (set out 0 s.depth) after s.depth → after ≡ written_in (stack_bytes (stack s)) out
-    coded_all after h =
-        h
-        ∙ ap (λ xs. (s.depth ∷ codes_up (stack s)) ++ xs) (drop-set-lt (1 + 2 * s.depth) out 0 s.depth (omega arith))
-        ∙ ap (λ n. (s.depth ∷ codes_up (stack s)) ++ drop n out) size
-        ∙ ap (λ n. (n ∷ codes_up (stack s)) ++ drop (length (stack_bytes (stack s))) out) (sym (stack_length s.kinds s.depth))
-        ∙ sym (rw fit refl)
+pub coded_short : (ks kinds : List Kind) (out : List ℕ) → kinds ≡ reverse ks → length kinds ≤ 16 → length out < 1 + 2 * length kinds → Unwritten (stack_bytes ks) out
+coded_short ks kinds out upward few l =
+    room_unwritten (stack_bytes ks) out (1 + 2 * length kinds) (sized ks (length kinds) (ap length upward ∙ length-reverse ks) few) l

@@ -1,7 +1,5 @@
-pub mod Taking
-pub mod Defaults
-pub mod Effecting
-pub mod Comparing
-pub mod Joining
+pub mod Cells
+pub mod Upward
 pub mod Coding
 pub mod Reading
+pub mod Taking

@@ -1,87 +1,66 @@
 ghost use Rattle.std.specs.Prelude.{◌≡◌};
 ghost use Rattle.types.specs.Popping.{Left, Taken, TakenOne};
-ghost use Rattle.types_theory.specs.Effect.{left, shallow, taken, type_fault};
-ghost use Rattle.types_theory.specs.Packing.{stack as stack_of};
+ghost use Rattle.types_theory.specs.Effect.{left, shallow, taken};
 ghost use Rattle.unit.specs.Model.{parts_of};
 
-use crate::shapes::{shape_kind, suits};
-use crate::stack::{pop, push};
+use crate::LAYER;
+use crate::operands::Operands;
+use crate::shapes::Context;
 use analysis_theory::fault::{Cause, Fault};
 use opcodes::opcode::{Shape, Takes};
-use types_theory::operands::Operands;
-use unit::unit::Unit;
 
-/// A fault of this analysis.
-pub(crate) fn fault(cause: Cause) -> Fault
-    ensures { result ≡ type_fault cause }
-{
-    Fault { layer: 1, cause }
-}
+impl Operands {
+    /// Takes one operand off, which has to be of a shape. It stood at this distance from the top when the instruction began.
+    fn take_one(
+        &mut self,
+        context: &Context<'_, '_>,
+        shape: Shape,
+        distance: u8,
+    ) -> Result<(), Fault>
+        ensures { TakenOne (parts_of context.now.unit.now) context.now.number shape distance self.old result self.new }
+    {
+        let Some(kind) = self.pop() else {
+            return Err(Cause::TooFew.under(LAYER));
+        };
+        if context.suits(shape, kind) {
+            Ok(())
+        } else {
+            Err(Cause::Misfit { distance }.under(LAYER))
+        }
+    }
 
-/// Takes one operand off, which has to be of a shape. It stood at this distance from the top when the instruction began.
-fn take_one(
-    unit: &Unit<'_>,
-    n: u16,
-    shape: Shape,
-    distance: u8,
-    operands: &mut Operands,
-) -> Result<(), Fault>
-    ensures { TakenOne (parts_of unit.now) n shape distance (stack_of operands.old) result (stack_of operands.new) }
-{
-    let Some(kind) = pop(operands) else {
-        return Err(fault(Cause::TooFew));
-    };
-    if suits(unit, n, shape, kind) {
+    /// Takes off what an instruction takes, the top one first. That there are too few comes before one that does not fit.
+    pub(crate) fn take(&mut self, context: &Context<'_, '_>, takes: Takes) -> Result<(), Fault>
+        ensures { Taken (taken (parts_of context.now.unit.now) context.now.number takes self.old) result self.new }
+    {
+        match takes {
+            Takes::Nothing => Ok(()),
+            Takes::One(only) => self.take_one(context, only, 0),
+            Takes::Two(lower, upper) => {
+                if self.len() < 2 {
+                    return Err(Cause::TooFew.under(LAYER));
+                }
+                self.take_one(context, upper, 0)?;
+                self.take_one(context, lower, 1)
+            }
+        }
+    }
+
+    /// Puts on what an instruction leaves, unless more operands would stand than the head allows.
+    pub(crate) fn leave(
+        &mut self,
+        context: &Context<'_, '_>,
+        leaves: Option<Shape>,
+    ) -> Result<(), Fault>
+        ensures { Left (shallow (parts_of context.now.unit.now) (left (parts_of context.now.unit.now) context.now.number leaves self.old)) result self.new }
+    {
+        let depth = self.len() + usize::from(leaves.is_some());
+        if depth > usize::from(context.unit.depth()) {
+            return Err(Cause::TooDeep.under(LAYER));
+        }
+        if let Some(shape) = leaves {
+            self.push(context.kind(shape));
+        }
         Ok(())
-    } else {
-        Err(fault(Cause::Misfit { distance }))
     }
-}
-
-/// Takes off what an instruction takes, the top one first. That there are too few comes before one that does not fit.
-pub(crate) fn take(
-    unit: &Unit<'_>,
-    n: u16,
-    takes: Takes,
-    operands: &mut Operands,
-) -> Result<(), Fault>
-    ensures { Taken (taken (parts_of unit.now) n takes (stack_of operands.old)) result (stack_of operands.new) }
-{
-    match takes {
-        Takes::Nothing => Ok(()),
-        Takes::One(only) => take_one(unit, n, only, 0, operands),
-        Takes::Two(lower, upper) => {
-            if operands.depth < 2 {
-                return Err(fault(Cause::TooFew));
-            }
-            take_one(unit, n, upper, 0, operands)?;
-            take_one(unit, n, lower, 1, operands)
-        }
-    }
-}
-
-/// Puts on what an instruction leaves, unless more operands would stand than the head allows.
-pub(crate) fn leave(
-    unit: &Unit<'_>,
-    n: u16,
-    leaves: Option<Shape>,
-    operands: &mut Operands,
-) -> Result<(), Fault>
-    ensures { Left (shallow (parts_of unit.now) (left (parts_of unit.now) n leaves (stack_of operands.old))) result (stack_of operands.new) }
-{
-    let most = unit.depth() as usize;
-    match leaves {
-        None => {
-            if operands.depth > most {
-                return Err(fault(Cause::TooDeep));
-            }
-        }
-        Some(shape) => {
-            if operands.depth >= most {
-                return Err(fault(Cause::TooDeep));
-            }
-            push(operands, shape_kind(unit, n, shape));
-        }
-    }
-    Ok(())
 }

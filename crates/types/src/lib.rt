@@ -2,9 +2,12 @@
 //! too many, or not what an instruction takes.
 #![tactic(auto)]
 
+/// The layer under which this analysis refuses.
+const LAYER: u8 = 1;
+
 mod effect;
+pub mod operands;
 mod order;
 mod shapes;
-mod stack;
 pub mod types;
 mod writing;

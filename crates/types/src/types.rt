@@ -1,17 +1,15 @@
 ghost use Rattle.types_theory.specs.Types.{types_meaning};
 ghost use Rattle.types_theory.proofs.StackLaws.{types_laws};
 
-use crate::effect::{fault, leave, take};
-use crate::order::{all_below, join_all};
-use crate::stack::empty;
-use crate::writing::{read_stack, write_stack};
+use crate::LAYER;
+use crate::operands::Operands;
+use crate::shapes::Context;
 use analysis::analysis::Analysis;
 use analysis_theory::fault::{Cause, Fault, NoJoin, Unreadable};
-use types_theory::operands::Operands;
 use unit::unit::Unit;
 
 /// The analysis of types.
-#[derive(Clone, Copy)]
+#[derive(Clone, Copy, Debug, PartialEq, Eq, Hash)]
 pub struct Types;
 
 impl Analysis for Types {
@@ -22,38 +20,41 @@ impl Analysis for Types {
     ghost laws = { λ a p k. types_laws p k };
 
     fn start(&self, _unit: &Unit<'_>) -> Operands {
-        empty()
+        Operands::new()
     }
 
     fn below(&self, unit: &Unit<'_>, a: &Operands, b: &Operands) -> bool {
-        all_below(unit, a, b)
+        a.lies_below(unit, b)
     }
 
     fn join(&self, unit: &Unit<'_>, into: &mut Operands, other: &Operands) -> Result<bool, NoJoin> {
-        join_all(unit, into, other)
+        into.join(unit, other)
     }
 
     fn effect(&self, unit: &Unit<'_>, at: usize, state: &mut Operands) -> Result<(), Fault> {
-        let Some(instruction) = unit.instruction(at) else {
-            return Err(fault(Cause::Outside));
-        };
+        let instruction = unit.instruction(at).ok_or(Cause::Outside.under(LAYER))?;
         let row = instruction.opcode.row();
+        let context = Context {
+            unit,
+            number: instruction.operand,
+        };
         let mut operands = *state;
-        take(unit, instruction.operand, row.takes, &mut operands)?;
-        leave(unit, instruction.operand, row.leaves, &mut operands)?;
+        operands.take(&context, row.takes)?;
+        operands.leave(&context, row.leaves)?;
         *state = operands;
         Ok(())
     }
 
+    #[tactic(auto, using(crate::proofs::Coding::sized))]
     fn size(&self, _unit: &Unit<'_>, state: &Operands) -> Option<usize> {
-        Some(1 + 2 * state.depth)
+        Some(1 + 2 * state.len())
     }
 
     fn write(&self, _unit: &Unit<'_>, state: &Operands, out: &mut [u8]) -> Option<usize> {
-        write_stack(state, out)
+        state.write(out)
     }
 
     fn read(&self, unit: &Unit<'_>, bytes: &[u8]) -> Result<(Operands, usize), Unreadable> {
-        read_stack(unit, bytes)
+        Operands::read(unit, bytes)
     }
 }

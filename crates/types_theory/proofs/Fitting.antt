@@ -1,5 +1,6 @@
 -- Values that fit kinds: they fit the kinds above, and still fit after objects were made or changed.
-use Rattle.std.proofs.Common.{◌≡◌, ℕ, zero, suc, ◌<◌, ◌≤◌, true, false, List, length, get_or, pos, sym, refl, ◌∙◌, subst, arith}
+use Rattle.std.proofs.Common.{◌≡◌, ℕ, zero, suc, ◌<◌, ◌≤◌, true, List, length, get_or, pos, sym, refl, ◌∙◌, subst, arith}
+use Rattle.std.proofs.lemmas.Bool.{false≢true}
 use Rattle.kinds.specs.declared.kind.Kind.{Kind}
 use Rattle.kinds.specs.declared.kind.Kind.TheVariants.{Int, Null, Unusable, Class}
 use Rattle.opcodes.specs.declared.opcode.Shape.{Shape}
@@ -17,9 +18,6 @@ use Rattle.types_theory.specs.Effect.{is_reference, suits}
 use Rattle.types_theory.specs.Description.{LeadsTo, Fits, FitAll, none, more, ObjectFits}
 use Rattle.types_theory.proofs.Stacks.{StackBelow}
 
-pub never : {A : Type 0} → false ≡ true → A
-never e = absurd (let z : ◌≡◌ {A = ℕ} 0 1 = cc in omega arith)
-
 -- every value conforms to unusable
 any : (p : Parts) (os : List Object) (v : Value) → conforms p os v Unusable ≡ true
 any p os (int z) = refl
@@ -31,7 +29,7 @@ conforms_above p low os v same h = h
 conforms_above p low os v unusable h = any p os v
 conforms_above p low os (int z) null h = h
 conforms_above p low os (ref zero) null h = refl
-conforms_above p low os (ref (suc i)) null h = never h
+conforms_above p low os (ref (suc i)) null h = absurd (false≢true h)
 conforms_above p low os (int z) (ancestor a) h = h
 conforms_above p low os (ref zero) (ancestor a) h = refl
 conforms_above p low os (ref (suc i)) (ancestor {c = c} {d = d} a) h =

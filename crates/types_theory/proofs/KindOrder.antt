@@ -1,5 +1,6 @@
 -- The order of kinds as tests, and which kinds a unit has.
 use Rattle.std.proofs.Common.{◌≡◌, ℕ, ◌<◌, true, ◌⊎◌, length, refl, arith, ltb-true, lt-ltb}
+use Rattle.std.proofs.lemmas.Bool.{false≢true}
 use Rattle.kinds.specs.declared.kind.Kind.{Kind}
 use Rattle.kinds.specs.declared.kind.Kind.TheVariants.{Int, Null, Unusable, Class}
 use Rattle.format.specs.Parts.{Parts}
@@ -61,10 +62,10 @@ module _ (p : Parts) (low : Lower p) where
 
   -- what lies below a reference is one
   pub reference_below : (a b : Kind) → lies p a b ≡ true → is_reference b ≡ true → is_reference a ≡ true
-  reference_below Int Null h k = absurd (let z : ◌≡◌ {A = ℕ} 0 1 = cc in omega arith)
+  reference_below Int Null h k = absurd (false≢true h)
   reference_below Int Int h k = k
   reference_below Int Unusable h k = k
-  reference_below Int (Class d) h k = absurd (let z : ◌≡◌ {A = ℕ} 0 1 = cc in omega arith)
+  reference_below Int (Class d) h k = absurd (false≢true h)
   reference_below Null b h k = refl
   reference_below Unusable Int h k = k
   reference_below Unusable Null h k = h

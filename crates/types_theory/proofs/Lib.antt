@@ -1,8 +1,6 @@
-pub mod Cells
 pub mod KindOrder
 pub mod Stacks
 pub mod Effects
-pub mod Packs
 pub mod Fitting
 pub mod Objects
 pub mod Taking

@@ -1,6 +1,6 @@
 -- Objects that are made or changed, and slots that are set, still fit.
-use Rattle.std.proofs.Common.{◌≡◌, ℕ, zero, suc, ◌<◌, ◌≤◌, ◌≢◌, List, [], ◌∷◌, ◌++◌, map, length, get_or, set, pos, Some, None, Option, sym, refl, ap, ◌∙◌, subst, ⊎_elim, arith, length-append, length-set, get_or-set_other, get_or-set_same}
-use lib.ListN.{length-map}
+use Rattle.std.proofs.Common.{◌≡◌, ℕ, ◌<◌, ◌≤◌, ◌≢◌, List, [], ◌∷◌, ◌++◌, length, get_or, set, pos, Some, None, Option, sym, refl, ap, ◌∙◌, subst, ⊎_elim, arith, length-append, length-set, get_or-set_other, get_or-set_same}
+use lib.ListN.{length-map, get_or-map}
 use lib.Seq.{get_or_at}
 use Rattle.std.proofs.lemmas.List.{get_or_append_left}
 use Rattle.std.proofs.lemmas.Bool.{cases_lt, cases_eq}
@@ -21,18 +21,13 @@ blank_fits p os Null n h = absurd h
 blank_fits p os Unusable n h = absurd h
 blank_fits p os (Class c) n h = record { conforming = refl; leading = tt }
 
-blank_at : (ks : List Kind) (k : ℕ) → get_or (map blank ks) k (int (pos 0)) ≡ blank (get_or ks k Int)
-blank_at [] k = refl
-blank_at (x ∷ ks) zero = refl
-blank_at (x ∷ ks) (suc k) = blank_at ks k
-
 pub fresh_fits : (p : Parts) → Keeps p → (os : List Object) (c : ℕ) → c < length p.classes → ObjectFits p os (fresh p c)
 fresh_fits p keeps os c l =
     record {
       class_known = l;
       cells_count = length-map (fields_of p c) blank;
       cells_fit = λ k h.
-          subst (λ (v : Value). Fits p os v (field_of p c k)) (sym (blank_at (fields_of p c) k))
+          subst (λ (v : Value). Fits p os v (field_of p c k)) (sym (get_or-map blank (fields_of p c) k Int))
           (blank_fits p os (field_of p c k) (length p.classes) ((keeps.classes_keep c l).storable k h));
     }
 

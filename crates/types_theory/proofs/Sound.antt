@@ -25,7 +25,7 @@ use Rattle.analysis_theory.specs.declared.fault.Cause.TheVariants.{Outside}
 use Rattle.analysis_theory.specs.Laws.{Allowed}
 use Rattle.types_theory.specs.Effect.{taken, left, type_fault, then_leaves, effect_of, effect_made_at}
 use Rattle.types_theory.specs.Description.{Fits, FitAll, more, ObjectFits, Described}
-use Rattle.types_theory.specs.Types.{stack_meaning}
+use Rattle.types_theory.specs.Types.{types_meaning}
 use Rattle.types_theory.proofs.KindOrder.{lies_same}
 use Rattle.types_theory.proofs.Effects.{test_passed}
 use Rattle.types_theory.proofs.Fitting.{fit_length, Grown, fits_grown, fit_all_grown, Has, inherited}
@@ -41,9 +41,9 @@ moves p ks ls c i vs d f =
     record { operands_fit = f; slots_count = d.slots_count; slots_fit = d.slots_fit; objects_fit = d.objects_fit }
 
 -- a run that is described and shallow passes the check of the depth
-goes_on : (p : Parts) (ls : List Kind) (c : Configuration) → length ls ≤ p.depth → Described p ls c → Allowed (stack_meaning p) ls (allowed p c)
+goes_on : (p : Parts) (ls : List Kind) (c : Configuration) → length ls ≤ p.depth → Described p ls c → Allowed (types_meaning p) ls (allowed p c)
 goes_on p ls c l d =
-    shallow_expected (Described p ls) (λ f. (stack_meaning p).forbids f ≡ false) p c
+    shallow_expected (Described p ls) (λ f. (types_meaning p).forbids f ≡ false) p c
     (subst (λ (n : ℕ). n ≤ p.depth) (sym (fit_length p c.objects d.operands_fit)) l) d
 
 -- with other objects, of the same classes as far as there were any
@@ -58,7 +58,7 @@ regrown p ks ls c os i vs g objects d f =
 
 module _ (p : Parts) (keeps : Keeps p) (c : Configuration) (n : ℕ) (ks : List Kind) (d : Described p ks c) where
   abbrev Good : List Kind → Outcome → Type 0
-  Good ls o = Allowed (stack_meaning p) ls o
+  Good ls o = Allowed (types_meaning p) ls o
 
   abbrev objects : List Object
   objects = c.objects
@@ -75,7 +75,7 @@ module _ (p : Parts) (keeps : Keeps p) (c : Configuration) (n : ℕ) (ks : List 
 
   -- two ways with the same operands
   either : (ls : List Kind) (b : Bool) (x y : Outcome) → Good ls x → Good ls y → Good ls (cond b x y)
-  either ls b x y = either_expected (Described p ls) (λ f. (stack_meaning p).forbids f ≡ false) b x y
+  either ls b x y = either_expected (Described p ls) (λ f. (types_meaning p).forbids f ≡ false) b x y
 
   loads_good : (rest : List Kind) (vs : List Value) (o : Option Value) → n < length p.slots → get_or c.slots n None ≡ o → length (slot_of p n ∷ rest) ≤ p.depth → FitAll p objects vs rest → Good (slot_of p n ∷ rest) (loads p c vs o)
   loads_good rest vs None l e s f = refl
@@ -222,10 +222,10 @@ module _ (p : Parts) (keeps : Keeps p) (c : Configuration) (n : ℕ) (ks : List 
   does_good Return ls w e = with_nothing None ls (ends c.row) e (λ s. ends_good ks c.row)
 
 -- the law that types owe
-pub stack_safe : (p : Parts) → Keeps p → (ks ls : List Kind) (c : Configuration) → Described p ks c → effect_made_at p c.at ks ≡ Ok ls → Allowed (stack_meaning p) ls (step p c)
+pub stack_safe : (p : Parts) → Keeps p → (ks ls : List Kind) (c : Configuration) → Described p ks c → effect_made_at p c.at ks ≡ Ok ls → Allowed (types_meaning p) ls (step p c)
 stack_safe p keeps ks ls c d e =
     let x = instruction_of p c.at in
     let u = test_passed (ltb c.at (length p.code)) (effect_of p x ks) (Err (type_fault Outside)) (type_fault Outside) ls refl e in
     let f = finds p c.objects x.operand (line_of x.opcode).takes c.operands in
-    subst (λ (b : Bool). Allowed (stack_meaning p) ls (cond b (does p c x.opcode x.operand f) (fault 7))) (sym u.0)
+    subst (λ (b : Bool). Allowed (types_meaning p) ls (cond b (does p c x.opcode x.operand f) (fault 7))) (sym u.0)
     (does_good p keeps c x.operand ks d x.opcode ls (keeps.code_keeps c.at (ltb-true _ _ u.0)) u.1)

@@ -17,14 +17,11 @@ use Rattle.analysis_theory.specs.declared.fault.Cause.{Cause}
 use Rattle.analysis_theory.specs.declared.fault.Cause.TheVariants.{TooDeep, Misfit, Outside}
 use Rattle.analysis_theory.specs.declared.fault.Fault.{Fault}
 use Rattle.analysis_theory.specs.Laws.{Laws}
-use Rattle.analysis_theory.proofs.PackedLaws.{packed_laws}
-use Rattle.types_theory.specs.Packing.{stack, pack}
 use Rattle.types_theory.specs.Order.{known, all_known, joined_kinds}
 use Rattle.types_theory.specs.Effect.{suits, taken, left, type_fault, then_leaves, effect_of, effect_made_at}
-use Rattle.types_theory.specs.Types.{stack_meaning, types_meaning}
+use Rattle.types_theory.specs.Types.{types_meaning}
 use Rattle.types_theory.proofs.Stacks.{is_below, below_is, below_length, is_join, join_refused, stack_same, stack_further, stack_both, stack_falls, join_left, join_right, join_least, join_known}
 use Rattle.types_theory.proofs.Effects.{test_passed, effect_below}
-use Rattle.types_theory.proofs.Packs.{view_pack, pack_view}
 use Rattle.types_theory.proofs.Fitting.{fit_all_above}
 use Rattle.types_theory.proofs.Taking.{accepted}
 use Rattle.types_theory.proofs.Sound.{stack_safe}
@@ -116,8 +113,8 @@ module _ (p : Parts) (keeps : Keeps p) where
   low : Lower p
   low = keeps_lower p keeps
 
-  stack_laws : Laws p (stack_meaning p)
-  stack_laws = record {
+  pub types_laws : Laws p (types_meaning p)
+  types_laws = record {
     start_is_state = and_from _ _ (le-leb 0 p.depth (omega arith)) refl;
     after_is_state = after_is_stack p keeps;
     join_is_state = join_is_stack p keeps;
@@ -146,9 +143,3 @@ module _ (p : Parts) (keeps : Keeps p) where
     fault_layer = λ i s f e. eq-eqb f.layer 1 (effect_fault p i s f e);
     refusal_layer = λ bs u e. eq-eqb u.layer 1 (refused_layer p bs u e);
   }
-
-  pub types_laws : Laws p (types_meaning p)
-  types_laws =
-      packed_laws stack pack
-      (λ ks h. let u = and_parts (leb (length ks) p.depth) (all_known p ks) h in view_pack ks (let l = leb-true (length ks) p.depth u.0 in let s = keeps.shallow in omega arith))
-      pack_view stack_laws

@@ -1,6 +1,6 @@
 -- The order of stacks, from the order of kinds.
-use Rattle.std.proofs.Common.{◌≡◌, ℕ, ◌<◌, true, false, ◌⊎◌, List, [], ◌∷◌, length, Some, None, Option, sym, refl, ap, subst, inl, inr, ⊎_elim, arith}
-use Rattle.std.proofs.lemmas.Bool.{and_from, and_parts}
+use Rattle.std.proofs.Common.{◌≡◌, ◌<◌, true, ◌⊎◌, List, [], ◌∷◌, length, Some, None, Option, sym, refl, ap, subst, inl, inr, ⊎_elim, arith}
+use Rattle.std.proofs.lemmas.Bool.{and_from, and_parts, false≢true}
 use Rattle.kinds.specs.declared.kind.Kind.{Kind}
 use Rattle.format.specs.Parts.{Parts}
 use Rattle.lattice.specs.Order.{Lower}
@@ -14,13 +14,10 @@ pub data StackBelow (p : Parts) : List Kind → List Kind → Type 0 where
   none : StackBelow p [] []
   more : {k j : Kind} {ks js : List Kind} → lies p k j ≡ true → StackBelow p ks js → StackBelow p (k ∷ ks) (j ∷ js)
 
-clash : true ≡ false → ⊥
-clash e = let z : ◌≡◌ {A = ℕ} 0 1 = cc in omega arith
-
 pub is_below : (p : Parts) (ks js : List Kind) → all_below p ks js ≡ true → StackBelow p ks js
 is_below p [] [] h = none
-is_below p [] (j ∷ js) h = absurd (clash (sym h))
-is_below p (k ∷ ks) [] h = absurd (clash (sym h))
+is_below p [] (j ∷ js) h = absurd (false≢true h)
+is_below p (k ∷ ks) [] h = absurd (false≢true h)
 is_below p (k ∷ ks) (j ∷ js) h = let u = and_parts (lies p k j) (all_below p ks js) h in more u.0 (is_below p ks js u.1)
 
 pub below_is : (p : Parts) {ks js : List Kind} → StackBelow p ks js → all_below p ks js ≡ true

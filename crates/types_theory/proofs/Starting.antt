@@ -1,6 +1,6 @@
 -- The empty stack describes every start.
-use Rattle.std.proofs.Common.{◌≡◌, ℕ, zero, suc, ◌-◌, ◌<◌, List, [], ◌∷◌, length, get_or, replicate, ℤ, pos, Some, None, Option, sym, refl, ◌∙◌, subst, arith}
-use lib.ListN.{length-replicate}
+use Rattle.std.proofs.Common.{◌≡◌, ℕ, zero, suc, ◌-◌, ◌<◌, List, [], ◌∷◌, length, get_or, ℤ, pos, Some, None, Option, sym, refl, ◌∙◌, subst, arith}
+use Rattle.std.proofs.lemmas.List.{length-replicate, get_or-replicate}
 use Rattle.kinds.specs.declared.kind.Kind.{Kind}
 use Rattle.kinds.specs.declared.kind.Kind.TheVariants.{Int, Null, Unusable, Class}
 use Rattle.format.specs.Parts.{Parts, field_count, field_of, slot_of}
@@ -39,14 +39,6 @@ takes_vessel p low o Null c h = absurd c
 takes_vessel p low o Unusable c h = absurd c
 takes_vessel p low o (Class d) c h = record { conforming = (is_a_decides p low o.class d).1 h; leading = omega arith }
 
-abbrev unset : Option Value
-unset = None
-
-all_unset : (n i : ℕ) → get_or (replicate n unset) i unset ≡ unset
-all_unset zero i = refl
-all_unset (suc n) zero = refl
-all_unset (suc n) (suc i) = all_unset n i
-
 pub stack_start : (p : Parts) → Keeps p → (v : Vessel) → Announced p v → Described p [] (start p v)
 stack_start p keeps v a =
     let low = keeps_lower p keeps in
@@ -54,7 +46,7 @@ stack_start p keeps v a =
     record {
       operands_fit = none;
       slots_count =
-          let e = length-replicate (length p.slots - 1) unset in
+          let e = length-replicate {A = Option Value} (length p.slots - 1) None in
           let s = keeps.some_slots in
           omega arith;
       slots_fit = slots;
@@ -67,8 +59,8 @@ stack_start p keeps v a =
         subst (λ (x : Value). Fits p (start p v).objects x (slot_of p 0)) is
         (takes_vessel p (keeps_lower p keeps) (vessel_object p v) (slot_of p 0) ((keeps.slots_keep 0 l).vessel refl) a.fitting)
     slots (suc i) w l e =
-        let q : None ≡ Some w = sym (all_unset (length p.slots - 1) i) ∙ e in
-        absurd (let z : ◌≡◌ {A = ℕ} 0 1 = cc in omega arith)
+        let q : None ≡ Some w = sym (get_or-replicate (length p.slots - 1) i None None (omega arith)) ∙ e in
+        absurd (grind arith)
 
     objects : (i : ℕ) → i < length (start p v).objects → ObjectFits p (start p v).objects (object_at (start p v).objects i)
     objects zero l = vessel_fits p keeps v a (start p v).objects

@@ -1,5 +1,6 @@
 -- What an accepted instruction finds on the stack of the machine: operands that are what the table asks for.
 use Rattle.std.proofs.Common.{◌≡◌, ℕ, ◌≤◌, Bool, true, false, cond, leb, List, [], ◌∷◌, length, Ok, Err, Option, Result, refl, subst, arith, leb-true}
+use Rattle.std.proofs.lemmas.Bool.{false≢true}
 use Rattle.kinds.specs.declared.kind.Kind.{Kind}
 use Rattle.opcodes.specs.declared.opcode.Shape.{Shape}
 use Rattle.opcodes.specs.declared.opcode.Takes.TheVariants.{One, Two}
@@ -36,7 +37,7 @@ pub record Operand (p : Parts) (os : List Object) (n : ℕ) (a : Shape) (v : Val
 module _ (p : Parts) (low : Lower p) (os : List Object) (n : ℕ) (Q : Found → Type 0) where
   one_found : (b : Bool) (f g : Found) → b ≡ true → Q f → Q (cond b f g)
   one_found true f g e q = q
-  one_found false f g e q = absurd (let z : ◌≡◌ {A = ℕ} 0 1 = cc in omega arith)
+  one_found false f g e q = absurd (false≢true e)
 
   -- of one operand
   pub take_one_sound : (a : Shape) {vs : List Value} {ks : List Kind} (rest : List Kind) → FitAll p os vs ks → taken p n (One a) ks ≡ Ok rest → ((v : Value) (ws : List Value) → Operand p os n a v → FitAll p os ws rest → Q (took (v ∷ []) ws)) → Q (finds p os n (One a) vs)

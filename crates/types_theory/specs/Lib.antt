@@ -1,5 +1,3 @@
-pub mod Cells
-pub mod Packing
 pub mod Order
 pub mod Effect
 pub mod Description

@@ -1,19 +1,16 @@
--- What the analysis of types means: over stacks of kinds, the top one first, and over the cells that keep them.
+-- What the analysis of types means, over stacks of kinds, the top one first.
 use Rattle.std.specs.Prelude.{◌&&◌, ◌||◌, List, [], length, ◌==◌, nat_le}
 use Rattle.kinds.specs.declared.kind.Kind.{Kind}
 use Rattle.format.specs.Parts.{Parts}
 use Rattle.analysis_theory.specs.Meaning.{Meaning}
-use Rattle.analysis_theory.specs.Packed.{packed_meaning}
-use Rattle.types_theory.specs.declared.operands.Operands.{Operands}
-use Rattle.types_theory.specs.Packing.{stack, pack}
 use Rattle.types_theory.specs.Order.{all_known, all_below, joined_kinds, heights}
 use Rattle.types_theory.specs.Effect.{effect_made_at}
 use Rattle.types_theory.specs.Description.{Described}
 use Rattle.types_theory.specs.Writing.{stack_bytes, stack_read}
 
 -- a state is a stack no deeper than the head allows, of kinds that the unit has; types forbid faults 1, 2 and 3
-abbrev pub stack_meaning : Parts → Meaning (List Kind)
-stack_meaning p = record {
+abbrev pub types_meaning : Parts → Meaning (List Kind)
+types_meaning p = record {
   is_state = λ ks. nat_le (length ks) p.depth && all_known p ks;
   start = [];
   below = all_below p;
@@ -26,6 +23,3 @@ stack_meaning p = record {
   bytes = stack_bytes;
   parsed = stack_read p;
 }
-
-abbrev pub types_meaning : Parts → Meaning Operands
-types_meaning p = packed_meaning stack pack (stack_meaning p)

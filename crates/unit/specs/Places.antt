@@ -1,11 +1,17 @@
 -- Where a record of a unit lies: within the bytes, which say there what the unit's parts have; nothing past the table.
-use Rattle.std.specs.Prelude.{◌≡◌, ℕ, ◌+◌, ◌<◌, ◌≤◌, length, Some, None, Option}
+use Rattle.std.specs.Prelude.{◌≡◌, ℕ, ◌+◌, ◌*◌, ◌<◌, ◌≤◌, length, Some, None, Option}
+use Rattle.format.specs.declared.layout.Span.{Span}
 use Rattle.format.specs.Bytes.{byte_at, word_at}
 use Rattle.format.specs.Parts.{class_of, parent_of, field_count, slot_of, instruction_of}
 use Rattle.format.specs.Decoding.{class_at, kind_at, instruction_at}
 use Rattle.format.specs.Tests.{count_at}
 use Rattle.unit.specs.declared.unit.Unit.{Unit}
 use Rattle.unit.specs.Model.{parts_of}
+
+-- where record i of a table stands, of records of one width, if there are so many
+abbrev pub RecordPlace : Span → ℕ → ℕ → Option ℕ → Type 0
+RecordPlace t width i (Some at) = (i < t.count) × (at ≡ t.start + width * i)
+RecordPlace t width i None = t.count ≤ i
 
 abbrev pub ClassPlace : Unit → ℕ → Option ℕ → Type 0
 ClassPlace u c (Some at) =

@@ -6,10 +6,11 @@ ghost use Rattle.unit.specs.Model.{parts_of, field_in};
 use crate::unit::Unit;
 use kinds::kind::Kind;
 use opcodes::opcode::{Instruction, Opcode};
-use reader::bytes::are_bytes;
+use reader::bytes::{are_bytes, word};
 
 impl<'a> Unit<'a> {
-    /// Does next to nothing, and tells a proof that the unit keeps the rules.
+    /// Does nothing, and tells a proof that the unit keeps the rules.
+    // Kept beside the invariant, as `tables` is.
     pub fn keeps_rules(&self)
         ensures { Keeps (parts_of self.now) }
     {
@@ -48,7 +49,7 @@ impl<'a> Unit<'a> {
     {
         self.tables();
         let at = self.class_place(class)?;
-        Some(self.word(at))
+        Some(word(self.bytes, at))
     }
 
     /// How many fields a class has, its parent's among them: at most eight.
@@ -67,7 +68,7 @@ impl<'a> Unit<'a> {
         if field >= self.bytes[at + 2] {
             return None;
         }
-        Some(Kind::from_code(self.word(at + 3 + 2 * field as usize)))
+        Some(Kind::from(word(self.bytes, at + 3 + 2 * field as usize)))
     }
 
     /// How many slots there are, from 1 to 32.
@@ -84,7 +85,7 @@ impl<'a> Unit<'a> {
         ensures { result ≡ within slot (length (parts_of self.now).slots) (slot_of (parts_of self.now) slot) }
     {
         let at = self.slot_place(slot)?;
-        Some(Kind::from_code(self.word(at)))
+        Some(Kind::from(word(self.bytes, at)))
     }
 
     /// How many instructions there are, from 1 to 1,024.
@@ -101,10 +102,10 @@ impl<'a> Unit<'a> {
         ensures { result ≡ within at (length (parts_of self.now).code) (instruction_of (parts_of self.now) at) }
     {
         let place = self.instruction_place(at)?;
-        let opcode = Opcode::from_byte(self.bytes[place])?;
+        let opcode = Opcode::try_from(self.bytes[place]).ok()?;
         Some(Instruction {
             opcode,
-            operand: self.word(place + 1),
+            operand: word(self.bytes, place + 1),
         })
     }
 }

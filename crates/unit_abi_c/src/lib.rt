@@ -1,4 +1,5 @@
 //! The exports of `unit_abi` for C and Rust, as a static library: a slice of bytes passes as a pointer and a length.
+// kept beside `unit_abi`: the C interface needs a static library, and a crate is a library or a static library, not both
 #![tactic(auto)]
 
 ghost use Rattle.std.specs.Prelude.{◌≡◌, ℕ, ◌*◌};

@@ -1,3 +1,2 @@
-mod Commands
-mod Marks
-mod Onward
+pub mod Commands
+pub mod Onward

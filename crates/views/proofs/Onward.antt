@@ -1,49 +1,43 @@
 -- The way on which every jump is taken, from an instruction to the one that follows.
-use Rattle.std.proofs.Common.{◌≡◌, ℕ, ◌+◌, ◌<◌, true, ltb, ◌⊎◌, length, Some, Ok, Err, Option, Result, sym, ap, ◌∙◌, subst, ⊎_elim}
+use Rattle.std.proofs.Common.{◌≡◌, ℕ, ◌+◌, true, ltb, length, Some, Ok, Err, Option, Result, sym, ap, ◌∙◌, subst}
 use Rattle.std.proofs.lemmas.Bool.{true≢false, cond-true, cond-false, lt-ltb}
 use Rattle.opcodes.specs.declared.opcode.Instruction.{Instruction}
 use Rattle.opcodes.specs.declared.opcode.Ways.{Ways}
-use Rattle.opcodes.specs.declared.opcode.Ways.TheVariants.{Next, Jump, Both as JumpOrNext}
+use Rattle.opcodes.specs.declared.opcode.Ways.TheVariants.{Next}
 use Rattle.opcodes.specs.Table.{line_of}
 use Rattle.opcodes.specs.TableRule.{jumps}
 use Rattle.format.specs.Parts.{Parts, within, instruction_of}
+use Rattle.listing.proofs.Within.{some_within}
 use Rattle.machine.specs.Ways.{passes, Leads, next, jump}
 use Rattle.analysis_theory.specs.declared.both.Both.{Both}
 use Rattle.analysis_theory.specs.declared.fault.Fault.{Fault}
 use Rattle.analysis_theory.specs.Methods.{Effected}
-use Rattle.types_theory.specs.declared.operands.Operands.{Operands}
-use Rattle.slots.specs.declared.set.SlotSet.{SlotSet}
-use Rattle.rows.specs.declared.state.RowState.{RowState}
+use Rattle.types.specs.declared.operands.Operands.{Operands}
+use Rattle.slots_theory.specs.declared.set.SlotSet.{SlotSet}
+use Rattle.rows_theory.specs.declared.state.RowState.{RowState}
 use Rattle.three.specs.Meaning.{three_meaning}
 use Rattle.views.specs.declared.way.Way.{Way}
 use Rattle.views.specs.declared.way.End.{End}
 use Rattle.views.specs.declared.way.End.TheVariants.{Refused}
 use Rattle.views.specs.Way.{onward, ways_of, begun, Gone, comes, comes_on, effects, goes}
 
--- the instruction at a place of the code
-there : (p : Parts) (i : ℕ) (x : Instruction) → i < length p.code → Some x ≡ within i (length p.code) (instruction_of p i) → x ≡ instruction_of p i
-there p i x l h =
-    let e : within i (length p.code) (instruction_of p i) ≡ Some (instruction_of p i) = cond-true (ltb i (length p.code)) _ _ (lt-ltb i _ l) in
-    let same : x ≡ instruction_of p i = cc in
-    same
-
 -- an instruction of the code whose ways are w, which has a jump way
-pub onward_jump : (p : Parts) (i : ℕ) (x : Instruction) (w : Ways) → i < length p.code → Some x ≡ within i (length p.code) (instruction_of p i) → w ≡ (line_of x.opcode).ways → (w ≡ Jump) ⊎ (w ≡ JumpOrNext) → (Some x.operand ≡ onward p i) × Leads p i x.operand
-onward_jump p i x w l h e v =
-    let s = there p i x l h in
-    let o : ways_of p i ≡ w = sym (e ∙ ap (λ (y : Instruction). (line_of y.opcode).ways) s) in
-    let j : jumps w ≡ true = ⊎_elim (λ is. ap jumps is) (λ is. ap jumps is) v in
+pub onward_jump : (p : Parts) (i : ℕ) (x : Instruction) (w : Ways) → Some x ≡ within i (length p.code) (instruction_of p i) → w ≡ (line_of x.opcode).ways → jumps w ≡ true → (Some x.operand ≡ onward p i) × Leads p i x.operand
+onward_jump p i x w h e j =
+    let t = some_within i (length p.code) x (instruction_of p i) h in
+    let o : ways_of p i ≡ w = sym (e ∙ ap (λ (y : Instruction). (line_of y.opcode).ways) t.1) in
     let k : jumps (ways_of p i) ≡ true = ap jumps o ∙ j in (
-      ap (λ (y : Instruction). Some y.operand) s ∙ sym (cond-true (ltb i (length p.code)) _ _ (lt-ltb i _ l) ∙ cond-true (jumps (ways_of p i)) _ _ k),
-      subst (λ (y : Instruction). Leads p i y.operand) (sym s) (jump k),
+      ap (λ (y : Instruction). Some y.operand) t.1 ∙ sym (cond-true (ltb i (length p.code)) _ _ (lt-ltb i _ t.0) ∙ cond-true (jumps (ways_of p i)) _ _ k),
+      subst (λ (y : Instruction). Leads p i y.operand) (sym t.1) (jump k),
     )
 
 -- the same, of one that has the next way alone
-pub onward_next : (p : Parts) (i : ℕ) (x : Instruction) (w : Ways) → i < length p.code → Some x ≡ within i (length p.code) (instruction_of p i) → w ≡ (line_of x.opcode).ways → w ≡ Next → (Some (i + 1) ≡ onward p i) × Leads p i (i + 1)
-onward_next p i x w l h e is =
-    let o : ways_of p i ≡ Next = sym (e ∙ ap (λ (y : Instruction). (line_of y.opcode).ways) (there p i x l h)) ∙ is in
-    let t : passes (ways_of p i) ≡ true = ap passes o in
-    (sym (cond-true (ltb i (length p.code)) _ _ (lt-ltb i _ l) ∙ cond-false (jumps (ways_of p i)) _ _ (ap jumps o) ∙ cond-true (passes (ways_of p i)) _ _ t), next t)
+pub onward_next : (p : Parts) (i : ℕ) (x : Instruction) (w : Ways) → Some x ≡ within i (length p.code) (instruction_of p i) → w ≡ (line_of x.opcode).ways → w ≡ Next → (Some (i + 1) ≡ onward p i) × Leads p i (i + 1)
+onward_next p i x w h e is =
+    let t = some_within i (length p.code) x (instruction_of p i) h in
+    let o : ways_of p i ≡ Next = sym (e ∙ ap (λ (y : Instruction). (line_of y.opcode).ways) t.1) ∙ is in
+    let k : passes (ways_of p i) ≡ true = ap passes o in
+    (sym (cond-true (ltb i (length p.code)) _ _ (lt-ltb i _ t.0) ∙ cond-false (jumps (ways_of p i)) _ _ (ap jumps o) ∙ cond-true (passes (ways_of p i)) _ _ k), next k)
 
 abbrev State : Type 0
 State = Both Operands (Both SlotSet RowState)

@@ -1,4 +1,2 @@
 pub mod Commands
-pub mod Operands
-pub mod Targets
 pub mod Way

@@ -7,9 +7,9 @@ use Rattle.format.specs.Parts.{Parts, instruction_of}
 use Rattle.machine.specs.Ways.{passes, Leads}
 use Rattle.analysis_theory.specs.declared.both.Both.{Both}
 use Rattle.analysis_theory.specs.declared.fault.Fault.{Fault}
-use Rattle.types_theory.specs.declared.operands.Operands.{Operands}
-use Rattle.slots.specs.declared.set.SlotSet.{SlotSet}
-use Rattle.rows.specs.declared.state.RowState.{RowState}
+use Rattle.types.specs.declared.operands.Operands.{Operands}
+use Rattle.slots_theory.specs.declared.set.SlotSet.{SlotSet}
+use Rattle.rows_theory.specs.declared.state.RowState.{RowState}
 use Rattle.three.specs.Meaning.{three_meaning}
 use Rattle.views.specs.declared.way.Way.{Way}
 use Rattle.views.specs.declared.way.End.{End}

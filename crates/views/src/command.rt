@@ -2,7 +2,7 @@ ghost use Rattle.std.specs.Prelude.{[], ◌∷◌, map, string_bytes};
 ghost use Rattle.views.specs.Commands.{Asks};
 
 /// What is to be shown of a unit.
-#[derive(Clone, Copy)]
+#[derive(Clone, Copy, Debug, PartialEq, Eq)]
 pub enum View {
     /// Its classes, its slots and its code.
     Listing,
@@ -11,18 +11,21 @@ pub enum View {
 }
 
 /// What the program is asked to do.
-#[derive(Clone, Copy)]
+// kept beside `Command` of `berth`: the two programs take different words, and one type for both would hold commands that
+// one of them lacks
+#[derive(Clone, Copy, Debug, PartialEq, Eq)]
 pub enum Command<'a> {
     /// Show the built-in rule, and what the analyses say of it.
     Builtin,
     /// Show what the analyses say of the built-in rule.
     Effects,
     /// Show a view of the unit in the file of this name.
-    OnFile(View, &'a str),
+    OnFile { view: View, file: &'a str },
 }
 
 impl<'a> Command<'a> {
     /// The command that the words after the program's name give, or none where they give none.
+    #[tactic(auto, using(listing::proofs::Words::no_words, listing::proofs::Words::one_word, listing::proofs::Words::two_words, crate::proofs::Commands::no_command))]
     pub fn parse(words: &'a [String]) -> Option<Command<'a>>
         ensures { Asks (map string_bytes words.now) result }
     {
@@ -49,8 +52,14 @@ impl<'a> Command<'a> {
         ensures { Asks (verb.now ∷ file.now ∷ []) result }
     {
         match verb {
-            "show" => Some(Command::OnFile(View::Listing, file)),
-            "effects" => Some(Command::OnFile(View::Effects, file)),
+            "show" => Some(Command::OnFile {
+                view: View::Listing,
+                file,
+            }),
+            "effects" => Some(Command::OnFile {
+                view: View::Effects,
+                file,
+            }),
             _ => None,
         }
     }

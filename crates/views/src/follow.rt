@@ -2,8 +2,9 @@ ghost use Rattle.std.specs.Prelude.{◌≡◌};
 ghost use Rattle.unit.specs.Model.{parts_of};
 ghost use Rattle.views.specs.Way.{onward, LeadsOn, begun, comes, goes};
 
-use crate::way::{End, MOST, Way};
+use crate::way::{End, Way};
 use analysis::analysis::Analysis;
+use listing::targets::MAX_INSTRUCTIONS;
 use opcodes::opcode::Ways;
 use three::three;
 use unit::unit::Unit;
@@ -30,7 +31,7 @@ impl Way {
         ensures { result ≡ begun (parts_of unit.now) }
     {
         let state = three().start(unit);
-        let mut seen = [false; MOST];
+        let mut seen = [false; MAX_INSTRUCTIONS];
         seen[0] = true;
         Way { at: 0, state, seen }
     }
@@ -43,7 +44,7 @@ impl Way {
     {
         let at = self.at;
         if let Err(fault) = three().effect(unit, at, &mut self.state) {
-            return Some(End::Refused(at, fault));
+            return Some(End::Refused { at, fault });
         }
         match follows(unit, at) {
             Some(next) => self.come_to(unit, next),

@@ -1,4 +1,4 @@
-use Rattle.std.proofs.Common.{◌≡◌, ℕ, sym, ◌∙◌, arith}
+use Rattle.std.proofs.Common.{sym, ◌∙◌, arith}
 use Rattle.lattice.proofs.Plain.{below_equal, null_below, least_swap, least_above, unusable_least, int_least, mixed_least, null_least}
 use Rattle.tree.proofs.Results.{join_answer}
 use Rattle.tree.proofs.join.Goals as goal
@@ -21,7 +21,7 @@ returns-in-Null-b-2 c =
 
 pub returns-in-Int-b-2 : goal.returns-in-Int-b-2
 returns-in-Int-b-2 c =
-    join_answer c.args.unit.now _ _ _ (mixed_least _ _ _ (λ e. let z : ◌≡◌ {A = ℕ} 0 1 = cc in omega arith) c.in-Int-b-2.is)
+    join_answer c.args.unit.now _ _ _ (mixed_least _ _ _ (λ e. cc) c.in-Int-b-2.is)
 
 pub returns-in-Null-b-3 : goal.returns-in-Null-b-3
 returns-in-Null-b-3 c =
@@ -29,7 +29,7 @@ returns-in-Null-b-3 c =
 
 pub returns-in-Int-b-3 : goal.returns-in-Int-b-3
 returns-in-Int-b-3 c =
-    join_answer c.args.unit.now _ _ _ (mixed_least _ _ _ (λ e. let z : ◌≡◌ {A = ℕ} 0 1 = cc in omega arith) c.in-Int-b-3.is)
+    join_answer c.args.unit.now _ _ _ (mixed_least _ _ _ (λ e. cc) c.in-Int-b-3.is)
 
 pub returns-in-Class-b : goal.returns-in-Class-b
 returns-in-Class-b c =

@@ -1,50 +1,46 @@
-use Rattle.std.proofs.Common.{ℕ, ◌+◌, List, set, Err, sym, ap, ◌∙◌, subst, arith}
+use Rattle.std.proofs.Common.{Ok, Err, ap, ◌∙◌}
 use Rattle.std.proofs.lemmas.Result.{err_from_is_err_and}
 use Rattle.unit.specs.Model.{parts_of}
-use Rattle.flow_theory.proofs.Fields.{field_facts}
-use Rattle.flow.specs.Tables.{entries_on}
-use Rattle.flow.proofs.Gathering.{Gathered, gathered_none, gathered_more, gathered_wrong, gathered_all, read_wrong, read_whole}
+use Rattle.flow.specs.Tables.{listed}
+use Rattle.flow.proofs.Gathering.{of_same, gathered_next, gathered_wrong, gathered_all, read_wrong, read_whole}
 use Rattle.flow.proofs.entries.read_entries.Goals as goal
-
-pub loop-place-init : goal.loop-place-init
-loop-place-init g c =
-    let p = parts_of c.args.unit.now in
-    let m = g.A.Analysis.meaning c.args.analysis.now p in
-    gathered_none p m c.args.bytes.now c.args.table.now c.args.marks.now c.requires.0 c.requires.1.0 c.requires.1.1
 
 pub returns-in_err-entry : goal.returns-in_err-entry
 returns-in_err-entry g c =
     let p = parts_of c.args.unit.now in
     let m = g.A.Analysis.meaning c.args.analysis.now p in
-    let q = err_from_is_err_and c.from_residual.result c.from_residual.ensures.1 in
+    let all = c.loop-entry.invariant in
+    let fields = c.loop-entry.entry-iterator in
     let f = c.in_err-entry.field-0.0 in
-    read_wrong p m c.args.bytes.now (entries_on m.start c.loop-place.table c.loop-place.marks) f c.from_residual.result c.if-not-headed.ensures
-    (gathered_wrong p m c.args.bytes.now c.loop-place.table c.loop-place.marks c.loop-place.place c.loop-place.least f c.loop-place.invariant c.loop-place-test.true c.in_err-entry.ensures)
+    let q = err_from_is_err_and c.from_residual-in_err-entry.result c.from_residual-in_err-entry.ensures.1 in
+    let read =
+    of_same g.A.Analysis.meaning fields.analysis.now c.args.analysis.now fields.unit.now c.args.unit.now fields.bytes.now c.args.bytes.now fields.place fields.least c.next.new.self.place c.next.new.self.least c.in-Some.entry (Err f)
+    all.1.0 all.1.1.0 all.1.1.1 c.in_err-entry.was c.in-Some.ensures.steps.0 in
+    read_wrong p m c.args.bytes.now (listed c.loop-entry.entries) f c.from_residual-in_err-entry.result c.in_ok-fields.ensures.headed
+    (gathered_wrong p m c.args.bytes.now c.loop-entry.entries fields.place fields.least f all.0 read.0 read.1)
     (q.1 ∙ ap Err q.2)
 
-pub loop-place-preserved : goal.loop-place-preserved
-loop-place-preserved g c =
+pub loop-entry-preserved : goal.loop-entry-preserved
+loop-entry-preserved g c =
     let p = parts_of c.args.unit.now in
     let m = g.A.Analysis.meaning c.args.analysis.now p in
-    let e = c.in_ok-entry.entry in
-    let next = gathered_more p m c.args.bytes.now c.loop-place.table c.loop-place.marks c.loop-place.place c.loop-place.least e c.loop-place.invariant c.loop-place-test.true c.in_ok-entry.ensures in
-    subst (λ xs. Gathered p m c.args.bytes.now xs c.enter.new.marks (c.loop-place.place + (3 + c.word.result)) (e.at + 1)) (sym c.enter.ensures.table)
-    (subst (λ (ks : List ℕ). Gathered p m c.args.bytes.now (set c.loop-place.table e.at e.state) ks (c.loop-place.place + (3 + c.word.result)) (e.at + 1)) (sym c.enter.ensures.marks)
-    (subst (λ (n : ℕ). Gathered p m c.args.bytes.now (set c.loop-place.table e.at e.state) (set c.loop-place.marks e.at 1) (c.loop-place.place + (3 + n)) (e.at + 1)) (sym c.word.ensures) next))
+    let all = c.loop-entry.invariant in
+    let fields = c.loop-entry.entry-iterator in
+    let e = c.in_ok-entry.field-0 in
+    let steps = c.in-Some.ensures.steps in
+    let read =
+    of_same g.A.Analysis.meaning fields.analysis.now c.args.analysis.now fields.unit.now c.args.unit.now fields.bytes.now c.args.bytes.now fields.place fields.least c.next.new.self.place c.next.new.self.least c.in-Some.entry (Ok e)
+    all.1.0 all.1.1.0 all.1.1.1 c.in_ok-entry.was steps.0 in (
+      gathered_next p m c.args.bytes.now c.loop-entry.entries c.enter.new.self fields.place fields.least c.next.new.self.place c.next.new.self.least e all.0 read c.enter.ensures,
+      (steps.1.0 ∙ all.1.0, (steps.1.1.0 ∙ all.1.1.0, steps.1.1.1 ∙ all.1.1.1)),
+    )
 
 pub returns : goal.returns
 returns g c =
     let p = parts_of c.args.unit.now in
     let m = g.A.Analysis.meaning c.args.analysis.now p in
-    let all = c.loop-place.invariant in
-    read_whole p m c.args.bytes.now (entries_on m.start c.loop-place.table c.loop-place.marks) all.entries c.if-not-headed.ensures
-    (gathered_all p m c.args.bytes.now c.loop-place.table c.loop-place.marks c.loop-place.place c.loop-place.least all c.loop-place-test.false) all.there
-
-pub enter-requires : goal.enter-requires
-enter-requires g c =
-    let p = parts_of c.args.unit.now in
-    let m = g.A.Analysis.meaning c.args.analysis.now p in
-    let f = field_facts p m c.args.bytes.now c.loop-place.place c.loop-place.least c.in_ok-entry.entry (sym c.in_ok-entry.ensures) in
-    let t = c.loop-place.invariant.table_size in
-    let k = c.loop-place.invariant.marks_size in
-    (omega (arith, t, f.in_code), omega (arith, k, f.in_code))
+    let all = c.loop-entry.invariant in
+    let fields = c.loop-entry.entry-iterator in
+    let end = rw all.1.1.1 at c.in-None.ensures.steps.0 in
+    read_whole p m c.args.bytes.now (listed c.loop-entry.entries) all.0.entries c.in_ok-fields.ensures.headed
+    (gathered_all p m c.args.bytes.now c.loop-entry.entries fields.place fields.least all.0 end) all.0.there

@@ -1,11 +1,10 @@
-use Rattle.std.proofs.Common.{◌-◌, length}
+use Rattle.std.proofs.Common.{◌≡◌}
 use Rattle.unit.specs.Model.{parts_of}
 use Rattle.flow.proofs.Gathering.{Gathered}
 use Rattle.flow.proofs.entries.read_entries.Given as goal
 
-abbrev pub invariant-loop-place : goal.invariant-loop-place
-invariant-loop-place g l =
-    Gathered (parts_of l.unit) (g.A.Analysis.meaning l.analysis (parts_of l.unit)) l.bytes l.table l.marks l.place l.least
-
-abbrev pub decreases-loop-place : goal.decreases-loop-place
-decreases-loop-place g l = length l.bytes - l.place
+abbrev pub invariant-loop-entry : goal.invariant-loop-entry
+invariant-loop-entry g l =
+    let fields = l.entry-iterator in
+    Gathered (parts_of l.unit) (g.A.Analysis.meaning l.analysis (parts_of l.unit)) l.bytes l.entries fields.place fields.least
+    × ((fields.analysis.now ≡ l.analysis) × ((fields.unit.now ≡ l.unit) × (fields.bytes.now ≡ l.bytes)))

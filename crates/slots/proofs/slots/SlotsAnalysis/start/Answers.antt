@@ -1,5 +1,5 @@
 use Rattle.std.proofs.Common.{refl}
-use Rattle.slots.specs.Same.{same_set}
+use Rattle.slots_theory.proofs.Same.{same_set}
 use Rattle.slots.proofs.slots.SlotsAnalysis.start.Goals as goal
 
 pub returns : goal.returns

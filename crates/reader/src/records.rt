@@ -1,0 +1,78 @@
+ghost use Rattle.std.specs.Prelude.{◌≡◌, ℕ, ◌+◌, ◌*◌, ◌<◌, ◌≤◌, ◌||◌, length, ◌==◌, nat_lt};
+ghost use Rattle.format.specs.Bytes.{up_to, word_at};
+ghost use Rattle.format.specs.Tests.{storable as storable_test, code_at, count_at, field_readable, field_agrees};
+
+use crate::bytes::word;
+use kinds::kind::Kind;
+
+/// How many bytes the record of a class has.
+pub(crate) const WIDTH: usize = 19;
+
+/// Whether a code is that of int or of one of so many classes.
+pub(crate) fn storable(classes: usize, code: u16) -> bool
+    ensures { result ≡ storable_test classes code }
+{
+    match Kind::from(code) {
+        Kind::Int => true,
+        _ => usize::from(code) < classes,
+    }
+}
+
+/// The record of a class, by the place where it starts.
+#[derive(Clone, Copy)]
+pub(crate) struct ClassRecord<'a> {
+    pub(crate) bytes: &'a [u8],
+    pub(crate) at: usize,
+    ghost whole: { at + 19 ≤ length bytes.now },
+}
+
+impl<'a> ClassRecord<'a> {
+    /// The number of the parent.
+    pub(crate) fn parent(self) -> u16
+        ensures { result ≡ word_at self.entry.bytes.now self.entry.at }
+    {
+        word(self.bytes, self.at)
+    }
+
+    /// How many fields the class has.
+    pub(crate) fn field_count(self) -> u8
+        ensures { result ≡ count_at self.entry.bytes.now self.entry.at }
+    {
+        self.bytes[self.at + 2]
+    }
+
+    /// The code of field k.
+    fn code(self, k: usize) -> u16
+        requires { k < 8 }
+        ensures { result ≡ code_at self.entry.bytes.now self.entry.at k }
+    {
+        word(self.bytes, self.at + 3 + 2 * k)
+    }
+
+    /// Whether field k is int or a class, or 0000 where the class has no such field.
+    fn field_reads(self, classes: usize, k: usize) -> bool
+        requires { k < 8 }
+        ensures { result ≡ field_readable self.entry.bytes.now classes self.entry.at k }
+    {
+        let code = self.code(k);
+        if k < usize::from(self.field_count()) {
+            storable(classes, code)
+        } else {
+            code == 0
+        }
+    }
+
+    /// Whether each of the first n fields equals the parent's, and all others are as they should be.
+    pub(crate) fn fields_agree(self, classes: usize, parent: ClassRecord<'_>, n: usize) -> bool
+        requires { parent.bytes.now ≡ self.bytes.now }
+        ensures { result ≡ up_to 8 (field_agrees self.entry.bytes.now classes self.entry.at parent.entry.at n) }
+    {
+        (0..8).all(|k| {
+            if k < n {
+                self.code(k) == parent.code(k)
+            } else {
+                self.field_reads(classes, k)
+            }
+        })
+    }
+}

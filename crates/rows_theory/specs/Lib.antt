@@ -1,0 +1,5 @@
+pub mod Order
+pub mod Effect
+pub mod Describing
+pub mod Writing
+pub mod Meaning

@@ -1,6 +1,0 @@
-use Rattle.std.proofs.Common.{refl}
-use Rattle.slots.specs.Same.{same_set}
-use Rattle.slots.proofs.set.SlotSet.intersection.Goals as goal
-
-pub returns : goal.returns
-returns c = same_set _ _ refl

@@ -1,8 +1,0 @@
-ghost use Rattle.std.specs.Prelude.{◌^◌, ◌<◌};
-
-/// A set of slots, of which there are 32 at most: bit n is slot n's.
-#[derive(Clone, Copy)]
-pub struct SlotSet {
-    pub bits: u32,
-    ghost fits: { bits < 2 ^ 32 },
-}

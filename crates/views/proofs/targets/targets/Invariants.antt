@@ -1,6 +1,0 @@
-use Rattle.unit.specs.Model.{parts_of}
-use Rattle.views.specs.Targets.{Marked}
-use Rattle.views.proofs.targets.targets.Given as goal
-
-abbrev pub invariant-loop-at : goal.invariant-loop-at
-invariant-loop-at l = Marked (parts_of l.unit) l.at l.marks
