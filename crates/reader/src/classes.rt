@@ -4,7 +4,7 @@ ghost use Rattle.format.specs.Tests.{class_readable};
 ghost use Rattle.format.specs.Reading.{read_classes, span as span_of};
 
 use crate::framing::{Fields, table};
-use crate::records::{ClassRecord, WIDTH};
+use crate::records::{ClassRecord, WIDTH, fields_agree};
 use format::layout::Span;
 use format::refusal::ReadError;
 
@@ -41,7 +41,7 @@ impl<'a> ClassTable<'a> {
             if parent != 0 || count != 0 {
                 return false;
             }
-            return class.fields_agree(self.span.count, class, 0);
+            return fields_agree(self.bytes, self.span.count, class.at, class.at, 0);
         }
         if count > 8 || parent >= i {
             return false;
@@ -51,7 +51,8 @@ impl<'a> ClassTable<'a> {
         if inherited > count {
             return false;
         }
-        class.fields_agree(self.span.count, up, usize::from(inherited))
+        let n = usize::from(inherited);
+        fields_agree(self.bytes, self.span.count, class.at, up.at, n)
     }
 
     /// The first class that breaks its rule.

@@ -5,8 +5,8 @@ use Rattle.format.proofs.Inherited.{other_decides}
 use Rattle.reader.proofs.classes.ClassTable.reads.Goals as goal
 
 -- the same fields of the same records
-same_fields : (bs cs : List ℕ) (n at a up u k m : ℕ) → cs ≡ bs → at ≡ a → up ≡ u → k ≡ m → up_to 8 (field_agrees cs n at up k) ≡ up_to 8 (field_agrees bs n a u m)
-same_fields bs cs n at a up u k m b x y z = rw (b, x, y, z) refl
+same_fields : (bs : List ℕ) (n at a up u k m : ℕ) → at ≡ a → up ≡ u → k ≡ m → up_to 8 (field_agrees bs n at up k) ≡ up_to 8 (field_agrees bs n a u m)
+same_fields bs n at a up u k m x y z = rw (x, y, z) refl
 
 pub returns : goal.returns
 returns c = record {
@@ -24,6 +24,6 @@ returns c = record {
       (subst (λ (n : ℕ). n ≤ 8) count c.if-count-gt8.false)
       c.fields_agree-2.result
       (c.fields_agree-2.ensures
-      ∙ same_fields bs c.record-class.result.bytes.now s.count c.record-class.result.at at c.record-up.result.at (s.start + 19 * word_at bs at) c.from.result (count_at bs (s.start + 19 * word_at bs at))
-      c.record-class.ensures.bytes c.record-class.ensures.at up (cc));
+      ∙ same_fields bs s.count c.record-class.result.at at c.record-up.result.at (s.start + 19 * word_at bs at) c.from-n.result (count_at bs (s.start + 19 * word_at bs at))
+      c.record-class.ensures.at up (cc));
 }
