@@ -49,13 +49,13 @@ impl<'a> ClassRecord<'a> {
         word(self.bytes, self.at + 3 + 2 * k)
     }
 
-    /// Whether field k is int or a class, or 0000 where the class has no such field.
-    fn field_reads(self, classes: usize, k: usize) -> bool
-        requires { k < 8 }
+    /// Whether field k is int or a class, or 0000 where the class, which has so many fields, has no such one.
+    fn field_reads(self, classes: usize, count: usize, k: usize) -> bool
+        requires { (k < 8) × (count ≡ count_at self.bytes.now self.at) }
         ensures { result ≡ field_readable self.entry.bytes.now classes self.entry.at k }
     {
         let code = self.code(k);
-        if k < usize::from(self.field_count()) {
+        if k < count {
             storable(classes, code)
         } else {
             code == 0
@@ -72,11 +72,8 @@ pub(crate) fn fields_agree(bytes: &[u8], classes: usize, at: usize, up: usize, n
 {
     let record = ClassRecord { bytes, at };
     let parent = ClassRecord { bytes, at: up };
-    (0..8).all(|k| {
-        if k < n {
-            record.code(k) == parent.code(k)
-        } else {
-            record.field_reads(classes, k)
-        }
-    })
+    let count = usize::from(record.field_count());
+    // Two passes: with both tests in one, the compiled code goes to and fro between them at each field.
+    (0..8).all(|k| k >= n || record.code(k) == parent.code(k))
+        && (0..8).all(|k| k < n || record.field_reads(classes, count, k))
 }

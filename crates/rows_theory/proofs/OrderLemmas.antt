@@ -2,7 +2,7 @@
 use Rattle.std.specs.Prelude.{◌≡◌, ◌<◌, true, ◌⊎◌}
 use Rattle.std.proofs.Common.{arith}
 use Rattle.rows_theory.specs.declared.state.RowState.{RowState}
-use Rattle.rows_theory.specs.declared.state.RowState.TheVariants.{Perhaps}
+use Rattle.rows_theory.specs.declared.state.RowState.TheVariants.{Empty, Held, Perhaps}
 use Rattle.rows_theory.specs.Order.{row_below, row_join, row_height}
 
 pub below_itself : (a : RowState) → row_below a a ≡ true
@@ -25,6 +25,10 @@ join_above_left a b = grind arith
 
 pub join_above_right : (a b : RowState) → row_below b (row_join a b) ≡ true
 join_above_right a b = grind arith
+
+-- only perhaps is above both others
+pub above_both : (d : RowState) → row_below Empty d ≡ true → row_below Held d ≡ true → row_below Perhaps d ≡ true
+above_both d p q = grind arith
 
 pub join_least : (a b d : RowState) → row_below a d ≡ true → row_below b d ≡ true → row_below (row_join a b) d ≡ true
 join_least a b d p q = grind arith

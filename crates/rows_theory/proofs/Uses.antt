@@ -1,9 +1,10 @@
 -- What the instructions do with the row, in three cases: post, return, and all others, which leave what is known of it.
-use Rattle.std.specs.Prelude.{◌≡◌, ℕ, ◌<◌, Bool, true, cond, length, Ok, Err, Result, ◌≢◌, nat_lt, refl}
-use Rattle.std.proofs.Common.{arith}
-use Rattle.std.proofs.lemmas.Bool.{ltb-true}
+use Rattle.std.specs.Prelude.{◌≡◌, ℕ, ◌<◌, Bool, true, false, cond, length, Ok, Err, Result, ◌==◌, ◌≢◌, nat_lt, refl}
+use Rattle.std.proofs.Common.{ap, arith}
+use Rattle.std.proofs.lemmas.Bool.{eqb-false, ltb-true}
 use Rattle.opcodes.specs.declared.opcode.Opcode.{Opcode}
 use Rattle.opcodes.specs.declared.opcode.Opcode.TheVariants.{Post, Return}
+use Rattle.opcodes.specs.Numbers.{opcode_number}
 use Rattle.format.specs.Parts.{Parts, instruction_of}
 use Rattle.analysis_theory.specs.declared.fault.Cause.TheVariants.{Outside}
 use Rattle.analysis_theory.specs.declared.fault.Fault.{Fault}
@@ -15,6 +16,10 @@ pub data Use : Opcode → Type 0 where
   posts : Use Post
   returns : Use Return
   leaves : {o : Opcode} → (o ≢ Post) → (o ≢ Return) → ((s : RowState) → row_by o s ≡ Ok s) → Use o
+
+-- instructions are told apart by their numbers
+pub apart : (o q : Opcode) → (opcode_number o == opcode_number q) ≡ false → o ≢ q
+apart o q f e = eqb-false _ _ f (ap opcode_number e)
 
 pub use_of : (o : Opcode) → Use o
 use_of Post = posts

@@ -1,5 +1,5 @@
 -- Bytes that begin with a state's writing are read as that state, and no others are read.
-use Rattle.std.specs.Prelude.{◌≡◌, ℕ, zero, suc, ◌<◌, ◌≤◌, true, List, [], ◌∷◌, ◌++◌, length, drop, Some, Ok, Err, Option, ◌==◌, refl}
+use Rattle.std.specs.Prelude.{◌≡◌, ℕ, zero, suc, ◌<◌, ◌≤◌, Bool, true, cond, List, [], ◌∷◌, ◌++◌, length, drop, Some, None, Ok, Err, Option, ◌==◌, refl}
 use Rattle.std.proofs.Common.{sym, ap, ◌∙◌, arith}
 use Rattle.std.proofs.lemmas.Bool.{le-leb}
 use Rattle.std.proofs.lemmas.Bool.Decides.{nat_tests}
@@ -7,6 +7,7 @@ use Rattle.format.specs.Bytes.{AllBytes}
 use Rattle.analysis_theory.specs.declared.fault.Unreadable.{Unreadable}
 use Rattle.analysis_theory.specs.Meaning.{Got}
 use Rattle.rows_theory.specs.declared.state.RowState.{RowState}
+use Rattle.rows_theory.specs.declared.state.RowState.TheVariants.{Empty, Held, Perhaps}
 use Rattle.rows_theory.specs.Writing.{row_byte, row_bytes, row_of_byte, row_got, row_parsed}
 
 a_byte : (s : RowState) → row_byte s < 256
@@ -19,7 +20,11 @@ writes_a_byte s (suc k) l = absurd (omega arith)
 of_its_byte : (s : RowState) → row_of_byte (row_byte s) ≡ Some s
 of_its_byte s = grind arith
 
--- a state that is read from a byte has that byte
+-- a state that is read from a byte has that byte, by the three tests of the byte
+pub by_tests : (b : ℕ) (x y z : Bool) (s : RowState) → (b == 0) ≡ x → (b == 1) ≡ y → (b == 2) ≡ z → cond x (Some Empty) (cond y (Some Held) (cond z (Some Perhaps) None)) ≡ Some s → b ≡ row_byte s
+by_tests b x y z s p q r e = grind (arith, nat_tests)
+
+-- and by the reading itself
 pub byte_of : (b : ℕ) (s : RowState) → row_of_byte b ≡ Some s → b ≡ row_byte s
 byte_of b s e = grind (arith, nat_tests)
 

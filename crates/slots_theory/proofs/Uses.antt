@@ -1,9 +1,10 @@
 -- What the instructions do with the slots, in three cases: load, store, and all others, which leave what is known of them.
-use Rattle.std.specs.Prelude.{◌≡◌, ℕ, ◌<◌, Bool, true, cond, length, Ok, Err, Result, ◌≢◌, nat_lt, refl}
-use Rattle.std.proofs.Common.{subst, arith}
-use Rattle.std.proofs.lemmas.Bool.{ltb-true}
+use Rattle.std.specs.Prelude.{◌≡◌, ℕ, ◌<◌, Bool, true, false, cond, length, Ok, Err, Result, ◌==◌, ◌≢◌, nat_lt, refl}
+use Rattle.std.proofs.Common.{ap, subst, arith}
+use Rattle.std.proofs.lemmas.Bool.{eqb-false, ltb-true}
 use Rattle.opcodes.specs.declared.opcode.Opcode.{Opcode}
 use Rattle.opcodes.specs.declared.opcode.Opcode.TheVariants.{Load, Store}
+use Rattle.opcodes.specs.Numbers.{opcode_number}
 use Rattle.opcodes.specs.Table.{line_of}
 use Rattle.format.specs.Parts.{Parts, instruction_of}
 use Rattle.format.specs.Rules.{Keeps, Names}
@@ -17,10 +18,18 @@ pub data Use : Opcode → Type 0 where
   stores : Use Store
   leaves : {o : Opcode} → (o ≢ Load) → (o ≢ Store) → ((n : ℕ) (s : SlotSet) → slots_by o n s ≡ Ok s) → Use o
 
+-- instructions are told apart by their numbers
+pub apart : (o q : Opcode) → (opcode_number o == opcode_number q) ≡ false → o ≢ q
+apart o q f e = eqb-false _ _ f (ap opcode_number e)
+
 pub use_of : (o : Opcode) → Use o
 use_of Load = loads
 use_of Store = stores
 use_of o = leaves (λ e. cc) (λ e. cc) (λ n s. refl)
+
+-- a refusal is no acceptance
+pub refused_not_accepted : {f : Fault} {t : SlotSet} → ◌≡◌ {A = Result SlotSet Fault} (Err f) (Ok t) → ⊥
+refused_not_accepted e = grind arith
 
 pub accepted_same : {s t : SlotSet} → ◌≡◌ {A = Result SlotSet Fault} (Ok s) (Ok t) → s ≡ t
 accepted_same e = cc

@@ -63,6 +63,14 @@ unlike_tells {E} same ks js r e = subst (λ b. MatchBool b (ks ≢ js) (ks ≡ j
     go true d = d.0 refl
     go false d = λ q. absurd (let h : false ≡ true = d.1 q in grind arith)
 
+-- what the test of two kinds tells of them
+pub unlike_kinds : {E : Kind → Kind → Bool} → ((a b : Kind) → Decides (E a b) (a ≡ b)) → (a b : Kind) (r : Bool) → r ≡ not (E a b) → MatchBool r (a ≢ b) (a ≡ b)
+unlike_kinds {E} same a b r e = subst (λ c. MatchBool c (a ≢ b) (a ≡ b)) (sym e) (told (E a b) (same a b))
+  where
+    told : (c : Bool) → Decides c (a ≡ b) → MatchBool (not c) (a ≢ b) (a ≡ b)
+    told true d = d.0 refl
+    told false d = λ q. absurd (let h : false ≡ true = d.1 q in grind arith)
+
 -- past the top of a stack there is only int
 pub cell_past : (ks : List Kind) (k : ℕ) → length ks ≤ k → slice_index_or (cells_of ks).kinds k Int ≡ Int
 cell_past ks k l =

@@ -1,4 +1,4 @@
-ghost use Rattle.std.specs.Prelude.{◌≡◌, ◌<◌, ◌≤◌, [], ◌∷◌, length, reverse, ◌==◌, nat_le, if◌then◌else◌, Some, None};
+ghost use Rattle.std.specs.Prelude.{◌≡◌, ◌<◌, ◌≤◌, [], ◌∷◌, length, reverse, ◌==◌, nat_le, if◌then◌else◌, Some, None, slice_set};
 ghost use Rattle.types.specs.Popping.{Popped};
 
 use kinds::kind::Kind;
@@ -84,6 +84,15 @@ impl Operands {
     {
         self.kinds[self.depth] = kind;
         self.depth += 1;
+    }
+
+    /// Puts a kind in the place of the one that stands at a place, counted from the bottom.
+    pub(crate) fn replace(&mut self, at: usize, kind: Kind)
+        requires { at < length self.old }
+        ensures { self.new ≡ reverse (slice_set (reverse self.old) at kind) }
+    {
+        let kinds = &mut self.kinds;
+        kinds[at] = kind;
     }
 
     /// Takes the top operand off, if there is one.

@@ -25,11 +25,14 @@ impl Operands {
         if self.len() != other.len() {
             return Err(NoJoin);
         }
-        let mut joined = Operands::new();
-        for (a, b) in self.as_slice().iter().zip(other.as_slice()) {
-            joined.push(join(unit, *a, *b));
+        let kinds = self.as_slice();
+        let mut joined = *self;
+        let mut rose = false;
+        for (i, other) in other.as_slice().iter().enumerate() {
+            let kind = join(unit, kinds[i], *other);
+            rose |= kind != kinds[i];
+            joined.replace(i, kind);
         }
-        let rose = joined != *self;
         *self = joined;
         Ok(rose)
     }
